@@ -1,0 +1,33 @@
+-- What is promised of one triangle. Each is a type; a proof of it is the theorem. Assumes nothing.
+use mathlib.Core.Path.{_≡_}
+use lib.Dec.{T}
+use lib.IntN.{ℤ, pos, _+ℤ_, _-ℤ_, _*ℤ_}
+use Rattle.exact.specs.Fractions.{whole, _+F_, _≤F_}
+use Rattle.rules.specs.declared.Triangle.{Triangle}
+use Rattle.rules.specs.declared.Corners.{Corners}
+use Rattle.rules.specs.Triangles.{area2, proper, turned, norm, spentIn, dragIn, around}
+use Rattle.rules.specs.Parts.{Part, part, carriedTo}
+
+abbrev pub square : ℤ → ℤ
+square z = z *ℤ z
+
+-- the two turned gradients span twice the area times the exchange around the triangle
+abbrev pub Cross : Type 0
+Cross =
+    (t : Triangle) (u s : Corners) → (turned t u .x *ℤ turned t s .y) -ℤ (turned t u .y *ℤ turned t s .x) ≡ area2 t *ℤ around u s
+
+-- a sum of two squares is what is spent and dragged, less the exchange
+abbrev pub Squares : Type 0
+Squares =
+    (t : Triangle) (u s : Corners) → let k = pos (t .k) in
+    square ((k *ℤ turned t u .x) -ℤ turned t s .y) +ℤ square ((k *ℤ turned t u .y) +ℤ turned t s .x) ≡
+    ((square k *ℤ pos (norm (turned t u))) +ℤ pos (norm (turned t s))) -ℤ (pos 2 *ℤ (k *ℤ (area2 t *ℤ around u s)))
+
+-- THE LAW OF ONE TRIANGLE: no field spends less there than its exchange with any stream, less the stream's drag
+abbrev pub LocalLaw : Type 0
+LocalLaw = (t : Triangle) → T (proper t) → (u s : Corners) → whole (around u s) ≤F (spentIn t u +F dragIn t s)
+
+-- each part of a triangle has, for carried values, the triangle's own turned gradient and area
+abbrev pub PartsAlike : Type 0
+PartsAlike =
+    (p : Part) (t : Triangle) (u : Corners) → (turned (part p t) (carriedTo p u) ≡ turned t u) × (area2 (part p t) ≡ area2 t)
