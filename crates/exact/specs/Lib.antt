@@ -1,1 +1,4 @@
+pub mod Capped
 pub mod Fractions
+pub mod Lists
+pub mod Rounding

@@ -1,3 +1,90 @@
-pub fn zero() -> u8 {
-    0
+//! Exact arithmetic on machine numbers: quotients rounded up, numbers kept below a cap, signed products.
+
+ghost use Prim.Native.Nat.{ℕ, _*_, _+_, _<_, _^_, _≤_};
+ghost use Rattle.exact.specs.Capped.{capped};
+ghost use Rattle.exact.specs.Rounding.{up};
+ghost use lib.IntN.{natAbs, _*ℤ_};
+ghost use mathlib.Core.Path.{_≡_};
+
+/// The first number that is too large to be kept by the capped operations.
+pub const CAP: u64 = 1 << 62;
+
+/// The quotient `n / d` rounded up: the least `m` with `n <= m * d`.
+pub fn ceil_div(n: u64, d: u64) -> u64
+    requires { ⌜ 0 < d ⌝ }
+    ensures value { λ r. ⌜ r ≡ up n d ⌝ }
+    ensures least { λ r. ⌜ ((m : ℕ) → (n ≤ m * d → r ≤ m) × (r ≤ m → n ≤ m * d)) ⌝ }
+{
+    n.div_ceil(d)
+}
+
+/// The number itself, or `None` where it reaches `CAP`.
+fn kept(n: u64) -> Option<u64>
+    ensures { λ r. ⌜ r ≡ capped n ⌝ }
+{
+    if n < CAP { Some(n) } else { None }
+}
+
+/// The product, or `None` where it reaches `CAP`.
+pub fn capped_product(a: u64, b: u64) -> Option<u64>
+    ensures { λ r. ⌜ r ≡ capped (a * b) ⌝ }
+{
+    kept(a.checked_mul(b)?)
+}
+
+/// The sum, or `None` where it reaches `CAP`.
+pub fn capped_sum(a: u64, b: u64) -> Option<u64>
+    ensures { λ r. ⌜ r ≡ capped (a + b) ⌝ }
+{
+    kept(a.checked_add(b)?)
+}
+
+/// The product of two signed factors, each below `2^31` in size.
+pub fn product(a: i64, b: i64) -> i64
+    requires left { ⌜ natAbs a < 2 ^ 31 ⌝ }
+    requires right { ⌜ natAbs b < 2 ^ 31 ⌝ }
+    ensures { λ r. ⌜ r ≡ a *ℤ b ⌝ }
+{
+    a * b
+}
+
+#[cfg(test)]
+mod tests {
+    use super::*;
+    use std::test::*;
+
+    #[test]
+    fn quotients_round_up() -> Result<(), Fail> {
+        check_eq(ceil_div(0, 7), 0)?;
+        check_eq(ceil_div(14, 7), 2)?;
+        check_eq(ceil_div(15, 7), 3)
+    }
+
+    #[test]
+    fn quotients_of_the_largest_number() -> Result<(), Fail> {
+        check_eq(ceil_div(u64::MAX, 1), u64::MAX)?;
+        check_eq(ceil_div(u64::MAX, 2), 1 << 63)?;
+        check_eq(ceil_div(u64::MAX, u64::MAX), 1)
+    }
+
+    #[test]
+    fn products_stop_at_the_cap() -> Result<(), Fail> {
+        check_eq(capped_product(CAP - 1, 1), Some(CAP - 1))?;
+        check_eq(capped_product(1 << 31, 1 << 31), None)?;
+        check_eq(capped_product(u64::MAX, u64::MAX), None)
+    }
+
+    #[test]
+    fn sums_stop_at_the_cap() -> Result<(), Fail> {
+        check_eq(capped_sum(CAP - 2, 1), Some(CAP - 1))?;
+        check_eq(capped_sum(CAP - 1, 1), None)?;
+        check_eq(capped_sum(u64::MAX, 1), None)
+    }
+
+    #[test]
+    fn products_keep_their_sign() -> Result<(), Fail> {
+        check_eq(product(-3, 5), -15)?;
+        check_eq(product(-2147483647, -2147483647), 4611686014132420609)?;
+        check_eq(product(2147483647, -2147483647), -4611686014132420609)
+    }
 }

@@ -1,0 +1,138 @@
+-- Fractions with denominators above 0: sums, differences, order and scaling. Assumes nothing.
+use mathlib.Core.Path.{_≡_, sym}
+use mathlib.Core.List.{List, [], _∷_}
+use Prim.Native.Nat.{ℕ, _+_, _*_, _<_, _≤_}
+use native.Mathlib.Omega.{arith}
+use native.Mathlib.Nat.{mul-pos}
+use borrow.Author.Differences.{ints}
+use lib.IntN.{ℤ, pos, _+ℤ_, _*ℤ_}
+use lib.Signed.{_≤ℤ_}
+use Rattle.exact.specs.Fractions.{Fraction, ratio, whole, _+F_, _-F_, negF, scaled, _≤F_, _≈F_}
+use Rattle.exact.proofs.Ring.{Expr, var, con, _⊕_, _⊗_, _⊝_, ⊖_, solve}
+use Rattle.exact.proofs.Certificates.{Fact, _≼_, hyp, lit, Cert, _⊞_, _⊠_, natural, prove≤}
+use Rattle.exact.proofs.Order.{≤ℤ-of-≡, *ℤ-cancel-≤ℤ, pos-≤ℤ}
+
+-- ---- four fractions as expressions, and the facts that their denominators are not negative
+record Frac : Type 0 where
+  n : Expr
+  d : Expr
+
+abbrev P : Frac
+P = record { n = var 0; d = var 1 }
+
+abbrev Q : Frac
+Q = record { n = var 2; d = var 3 }
+
+abbrev R : Frac
+R = record { n = var 4; d = var 5 }
+
+abbrev S : Frac
+S = record { n = var 6; d = var 7 }
+
+abbrev parts : Fraction → Fraction → Fraction → Fraction → List ℤ
+parts p q r s = p .num ∷ pos (p .den) ∷ q .num ∷ pos (q .den) ∷ r .num ∷ pos (r .den) ∷ s .num ∷ pos (s .den) ∷ []
+
+infixl 6 _⊹_
+abbrev _⊹_ : Frac → Frac → Frac
+p ⊹ q = record { n = (p .n ⊗ q .d) ⊕ (q .n ⊗ p .d); d = p .d ⊗ q .d }
+
+abbrev negative : Frac → Frac
+negative p = record { n = ⊖ (p .n); d = p .d }
+
+abbrev times : Expr → Frac → Frac
+times z p = record { n = z ⊗ p .n; d = p .d }
+
+abbrev lhs : Frac → Frac → Expr
+lhs p q = p .n ⊗ q .d
+
+infix 4 _≼F_
+abbrev _≼F_ : Frac → Frac → Fact
+p ≼F q = lhs p q ≼ lhs q p
+
+abbrev natural-of : Frac → Fact
+natural-of p = con (pos 0) ≼ p .d
+
+-- ---- denominators
+pub +F-den : (p q : Fraction) → 0 < p .den → 0 < q .den → 0 < (p +F q) .den
++F-den p q hp hq = mul-pos hp hq
+
+-- ---- order
+pub ≤F-refl : (p : Fraction) → p ≤F p
+≤F-refl p = omega (arith, ints)
+
+pub ≤F-trans : (p q r : Fraction) → 0 < q .den → p ≤F q → q ≤F r → p ≤F r
+≤F-trans p q r above h k =
+    *ℤ-cancel-≤ℤ (pos (q .den)) (pos-≤ℤ above)
+    (prove≤ (parts p q r r) ((P ≼F Q) ∷ (Q ≼F R) ∷ natural-of P ∷ natural-of R ∷ []) ((hyp 0 ⊠ hyp 3) ⊞ (hyp 1 ⊠ hyp 2)) (Q .d ⊗ lhs P R) (Q .d ⊗ lhs R P) tt
+    (h, (k, (natural (p .den), (natural (r .den), tt)))))
+
+pub ≤F-+ : (p q r s : Fraction) → p ≤F q → r ≤F s → (p +F r) ≤F (q +F s)
+≤F-+ p q r s h k =
+    prove≤ (parts p q r s) ((P ≼F Q) ∷ (R ≼F S) ∷ natural-of P ∷ natural-of Q ∷ natural-of R ∷ natural-of S ∷ [])
+    ((hyp 0 ⊠ (hyp 4 ⊠ hyp 5)) ⊞ (hyp 1 ⊠ (hyp 2 ⊠ hyp 3))) (lhs (P ⊹ R) (Q ⊹ S)) (lhs (Q ⊹ S) (P ⊹ R)) tt
+    (h, (k, (natural (p .den), (natural (q .den), (natural (r .den), (natural (s .den), tt))))))
+
+-- a fraction moves to the other side with its sign changed
+pub ≤F-move : (p q r : Fraction) → p ≤F (q +F r) → (p -F r) ≤F q
+≤F-move p q r h =
+    prove≤ (parts p q r r) ((P ≼F (Q ⊹ R)) ∷ []) (hyp 0) (lhs (P ⊹ negative R) Q) (lhs Q (P ⊹ negative R)) tt (h, tt)
+
+pub ≤F-move-back : (p q r : Fraction) → (p -F r) ≤F q → p ≤F (q +F r)
+≤F-move-back p q r h =
+    prove≤ (parts p q r r) (((P ⊹ negative R) ≼F Q) ∷ []) (hyp 0) (lhs P (Q ⊹ R)) (lhs (Q ⊹ R) P) tt (h, tt)
+
+pub ≤F-neg : (p q : Fraction) → p ≤F q → negF q ≤F negF p
+≤F-neg p q h = prove≤ (parts p q q q) ((P ≼F Q) ∷ []) (hyp 0) (lhs (negative Q) (negative P)) (lhs (negative P) (negative Q)) tt (h, tt)
+
+pub ≤F-scaled : (z : ℤ) (p q : Fraction) → pos 0 ≤ℤ z → p ≤F q → scaled z p ≤F scaled z q
+≤F-scaled z p q not-negative h =
+    prove≤ (p .num ∷ pos (p .den) ∷ q .num ∷ pos (q .den) ∷ z ∷ []) ((P ≼F Q) ∷ (con (pos 0) ≼ var 4) ∷ []) (hyp 0 ⊠ hyp 1)
+    (lhs (times (var 4) P) (times (var 4) Q)) (lhs (times (var 4) Q) (times (var 4) P)) tt (h, (not-negative, tt))
+
+pub whole-≤F : (a b : ℤ) → a ≤ℤ b → whole a ≤F whole b
+whole-≤F a b h = omega (arith, ints)
+
+pub ≤F-whole : (a b : ℤ) → whole a ≤F whole b → a ≤ℤ b
+≤F-whole a b h = omega (arith, ints)
+
+-- ---- the same number
+pub ≈F-from : (p q : Fraction) → p .num *ℤ pos (q .den) ≡ q .num *ℤ pos (p .den) → p ≈F q
+≈F-from p q e = (≤ℤ-of-≡ e, ≤ℤ-of-≡ (sym e))
+
+pub ≈F-sym : (p q : Fraction) → p ≈F q → q ≈F p
+≈F-sym p q e = (e .1, e .0)
+
+pub ≈F-trans : (p q r : Fraction) → 0 < q .den → p ≈F q → q ≈F r → p ≈F r
+≈F-trans p q r above e f = (≤F-trans p q r above (e .0) (f .0), ≤F-trans r q p above (f .1) (e .1))
+
+pub ≈F-+ : (p q r s : Fraction) → p ≈F q → r ≈F s → (p +F r) ≈F (q +F s)
+≈F-+ p q r s e f = (≤F-+ p q r s (e .0) (f .0), ≤F-+ q p s r (e .1) (f .1))
+
+pub +F-comm : (p q : Fraction) → (p +F q) ≈F (q +F p)
++F-comm p q = ≈F-from (p +F q) (q +F p) (solve (parts p q q q) (lhs (P ⊹ Q) (Q ⊹ P)) (lhs (Q ⊹ P) (P ⊹ Q)) tt)
+
+pub +F-assoc : (p q r : Fraction) → ((p +F q) +F r) ≈F (p +F (q +F r))
++F-assoc p q r =
+    ≈F-from ((p +F q) +F r) (p +F (q +F r)) (solve (parts p q r r) (lhs ((P ⊹ Q) ⊹ R) (P ⊹ (Q ⊹ R))) (lhs (P ⊹ (Q ⊹ R)) ((P ⊹ Q) ⊹ R)) tt)
+
+pub whole-+F : (a b : ℤ) → (whole a +F whole b) ≈F whole (a +ℤ b)
+whole-+F a b =
+    let A : Frac = record { n = var 0; d = con (pos 1) } in
+    let B : Frac = record { n = var 1; d = con (pos 1) } in
+    let AB : Frac = record { n = var 0 ⊕ var 1; d = con (pos 1) } in
+    ≈F-from (whole a +F whole b) (whole (a +ℤ b)) (solve (a ∷ b ∷ []) (lhs (A ⊹ B) AB) (lhs AB (A ⊹ B)) tt)
+
+pub scaled-+F : (z : ℤ) (p q : Fraction) → scaled z (p +F q) ≈F (scaled z p +F scaled z q)
+scaled-+F z p q =
+    let pq = times (var 4) (P ⊹ Q) in
+    let both = times (var 4) P ⊹ times (var 4) Q in
+    ≈F-from (scaled z (p +F q)) (scaled z p +F scaled z q)
+    (solve (p .num ∷ pos (p .den) ∷ q .num ∷ pos (q .den) ∷ z ∷ []) (lhs pq both) (lhs both pq) tt)
+
+-- two fractions over one denominator
+pub ratio-+F : (m n d : ℕ) → (ratio m d +F ratio n d) ≈F ratio (m + n) d
+ratio-+F m n d =
+    let M : Frac = record { n = var 0; d = var 2 } in
+    let N : Frac = record { n = var 1; d = var 2 } in
+    let MN : Frac = record { n = var 0 ⊕ var 1; d = var 2 } in
+    ≈F-from (ratio m d +F ratio n d) (ratio (m + n) d) (solve (pos m ∷ pos n ∷ pos d ∷ []) (lhs (M ⊹ N) MN) (lhs MN (M ⊹ N)) tt)

@@ -1,0 +1,38 @@
+-- The two numbers: rounded quotient by quotient, so that each is on its safe side. Assumes nothing.
+use mathlib.Core.Bool.{Bool}
+use mathlib.Core.List.{List}
+use Prim.Native.Nat.{ℕ, _*_}
+use lib.IntN.{ℤ, pos, _+ℤ_, _-ℤ_, _*ℤ_, natAbs}
+use Rattle.std.specs.shelf.Lists.{sumBy}
+use Rattle.exact.specs.Rounding.{up}
+use Rattle.exact.specs.Lists.{sumZ}
+use Rattle.rules.specs.declared.Triangle.{Triangle}
+use Rattle.rules.specs.declared.Corners.{Corners}
+use Rattle.rules.specs.declared.OutlineEdge.{OutlineEdge}
+use Rattle.rules.specs.declared.OutlineEdge.the-variants.{Closed, Held}
+use Rattle.rules.specs.Triangles.{area2, turned, norm}
+use Rattle.rules.specs.Plates.{Plate, Values, cornersOf}
+
+-- k times the quotient, rounded up
+unfoldable pub upperIn : Triangle → Corners → ℕ
+upperIn t u = t .k * up (norm (turned t u)) (2 * natAbs (area2 t))
+
+unfoldable pub upDragIn : Triangle → Corners → ℕ
+upDragIn t s = up (norm (turned t s)) (2 * natAbs (area2 t) * t .k)
+
+-- along a held edge: the sum of its temperatures times the stream's difference
+unfoldable pub workAlong : Values → OutlineEdge → ℤ
+workAlong s (Closed e) = pos 0
+workAlong s (Held e g h) = (g +ℤ h) *ℤ (s (e .to) -ℤ s (e .from))
+
+abbrev pub upper : Values → List Triangle → ℕ
+upper u ts = sumBy (λ t. upperIn t (cornersOf u t)) ts
+
+abbrev pub upDrag : Values → List Triangle → ℕ
+upDrag s ts = sumBy (λ t. upDragIn t (cornersOf s t)) ts
+
+abbrev pub work : Values → List OutlineEdge → ℤ
+work s bs = sumZ (workAlong s) bs
+
+abbrev pub lower : Values → Plate → ℤ
+lower s m = work s (m .outline) -ℤ pos (upDrag s (m .triangles))
