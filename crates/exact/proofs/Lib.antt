@@ -1,6 +1,8 @@
 pub mod Certificates
 pub mod Fractions
 pub mod Integers
+pub mod Lists
+pub mod Machine
 pub mod Order
 pub mod Products
 pub mod Ring

@@ -1,6 +1,6 @@
 -- The size of a product of integers. Assumes nothing.
-use mathlib.Core.Path.{_≡_, refl}
-use Prim.Native.Nat.{suc, _*_, _<_, _≤_, _^_}
+use mathlib.Core.Path.{_≡_, refl, sym, subst}
+use Prim.Native.Nat.{ℕ, suc, _-_, _*_, _<_, _≤_, _^_}
 use native.Mathlib.Nat.{mul-le-mul}
 use native.Mathlib.Omega.{arith}
 use borrow.Author.Differences.{ints}
@@ -17,8 +17,9 @@ natAbs-*ℤ (pos a) (negsuc b) = natAbs-negℤ (pos (a * suc b))
 natAbs-*ℤ (negsuc a) (pos b) = natAbs-negℤ (pos (suc a * b))
 natAbs-*ℤ (negsuc a) (negsuc b) = refl
 
+-- a product is at most as large as the product of bounds
+pub natAbs-*ℤ-≤ : (a b : ℤ) (m n : ℕ) → natAbs a ≤ m → natAbs b ≤ n → natAbs (a *ℤ b) ≤ m * n
+natAbs-*ℤ-≤ a b m n h k = subst (λ z. z ≤ m * n) (sym (natAbs-*ℤ a b)) (mul-le-mul {n₂ = m} {m₂ = n} h k)
+
 pub product-fits : (a b : ℤ) → natAbs a < 2 ^ 31 → natAbs b < 2 ^ 31 → SFits w64 (a *ℤ b)
-product-fits a b h k =
-    let size : natAbs a * natAbs b ≤ 2 ^ 31 * 2 ^ 31 = mul-le-mul {n₂ = 2 ^ 31} {m₂ = 2 ^ 31} (omega arith) (omega arith) in
-    let whole = natAbs-*ℤ a b in
-    omega (arith, ints)
+product-fits a b h k = let size = natAbs-*ℤ-≤ a b (2 ^ 31 - 1) (2 ^ 31 - 1) (omega arith) (omega arith) in omega (arith, ints)

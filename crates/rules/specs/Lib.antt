@@ -5,3 +5,4 @@ pub mod Plates
 pub mod Numbers
 pub mod Limits
 pub mod Bounds
+pub mod Refusals

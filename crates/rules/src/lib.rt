@@ -1,20 +1,22 @@
-// What the definitions speak of.
+//! What the definitions speak of.
 
-// A point of the plane, with whole coordinates.
+mod codes;
+
+/// A point of the plane, with whole coordinates.
 #[derive(Clone, Copy)]
 pub struct Point {
     pub x: i64,
     pub y: i64,
 }
 
-// A directed edge.
+/// A directed edge.
 #[derive(Clone, Copy)]
 pub struct Edge {
     pub from: Point,
     pub to: Point,
 }
 
-// A triangle, its corners against the clock, and its conductivity k.
+/// A triangle, its corners against the clock, and its conductivity k.
 #[derive(Clone, Copy)]
 pub struct Triangle {
     pub a: Point,
@@ -23,14 +25,14 @@ pub struct Triangle {
     pub k: u64,
 }
 
-// An edge of the outline, directed as its triangle has it: closed to heat, or held at a temperature at each end.
+/// An edge of the outline, directed as its triangle has it: closed to heat, or held at a temperature at each end.
 #[derive(Clone, Copy)]
 pub enum OutlineEdge {
     Closed { edge: Edge },
     Held { edge: Edge, from: i64, to: i64 },
 }
 
-// A number at each corner of a triangle.
+/// A number at each corner of a triangle.
 #[derive(Clone, Copy)]
 pub struct Corners {
     pub a: i64,
@@ -38,9 +40,22 @@ pub struct Corners {
     pub c: i64,
 }
 
-// A vector of the plane.
+/// A vector of the plane.
 #[derive(Clone, Copy)]
 pub struct Vector {
     pub x: i64,
     pub y: i64,
+}
+
+/// Why something is refused: the first cause that applies, in this order.
+#[derive(Clone, Copy, PartialEq, Eq, Debug)]
+pub enum Refusal {
+    /// not as many numbers as the counts need, a count out of range, an outline edge of no known kind
+    Form,
+    /// a coordinate, a conductivity or a temperature out of range
+    Limits,
+    /// not a lawful plate
+    Unlawful,
+    /// values too steep, or a number too large
+    Excess,
 }

@@ -1,0 +1,1 @@
+//! The check that lets a plate pass.
