@@ -3,7 +3,7 @@ use mathlib.Core.Path.{_≡_, refl, sym, ap, _∙_}
 use mathlib.Core.Bool.{Bool, true, false, _&&_}
 use mathlib.Core.List.{List, [], _∷_, map}
 use Prim.Native.Nat.{ℕ, zero, suc, _+_, _-_, _<_, _≤_}
-use native.Mathlib.Nat.{add-zero}
+use native.Mathlib.Nat.{add-zero, zero-add}
 use native.Mathlib.Omega.{arith}
 use Rattle.std.specs.Iters.{counting}
 use Rattle.std.proofs.shelf.Tests.{and-parts}
@@ -40,3 +40,12 @@ at-every p a (suc n) zero e h = ap p (add-zero a) ∙ and-parts (p a) (every p (
 at-every p a (suc n) (suc i) e h =
     let next : a + suc i ≡ a + 1 + i = omega arith in
     ap p next ∙ at-every p (a + 1) n i (and-parts (p a) (every p (counting (a + 1) n)) e .1) (omega arith)
+
+-- the same of a list made from a function of the index
+pub at-every-map : {A : Type 0} (p : A → Bool) (f : ℕ → A) (n i : ℕ) → every p (map f (counting 0 n)) ≡ true → i < n → p (f i) ≡ true
+at-every-map p f n i e h =
+    ap (λ j. p (f j)) (sym (zero-add i)) ∙ at-every (λ j. p (f j)) 0 n i (sym (every-map p f (counting 0 n)) ∙ e) h
+
+-- what a loop over the indices answers, of the list
+pub every-listed : {A : Type 0} (p : A → Bool) (f : ℕ → A) (r : Bool) (m n : ℕ) → r ≡ every (λ i. p (f i)) (counting 0 m) → m ≡ n → r ≡ every p (map f (counting 0 n))
+every-listed p f r m n e same = e ∙ ap (λ k. every (λ i. p (f i)) (counting 0 k)) same ∙ sym (every-map p f (counting 0 n))

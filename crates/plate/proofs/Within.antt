@@ -1,13 +1,16 @@
 -- What the limits give, part by part. Assumes nothing.
 use mathlib.Core.Path.{_≡_, sym, subst}
-use mathlib.Core.Bool.{Bool, true, _&&_}
+use mathlib.Core.Bool.{Bool, true, false, _&&_}
+use mathlib.Core.List.{List}
 use Prim.Native.Nat.{ℕ, _≤_, _<_}
 use lib.Dec.{T, leb, ltb, leb→le, ltb→lt}
 use lib.IntN.{ℤ, natAbs}
 use Rattle.std.proofs.shelf.Tests.{and-parts}
 use Rattle.rules.specs.declared.Point.{Point}
 use Rattle.rules.specs.declared.Triangle.{Triangle}
-use Rattle.rules.specs.Limits.{near, nearPoint, modest}
+use Rattle.rules.specs.Limits.{near, nearPoint, modest, counts, allMarked, modestPlate, properPlate}
+use Rattle.rules.specs.Numbers.{plateOf}
+use Rattle.rules.specs.Refusals.{plateVerdict}
 
 pub near-is : (b : ℕ) (z : ℤ) → near b z ≡ true → natAbs z ≤ b
 near-is b z e = leb→le (natAbs z) b (subst T (sym e) tt)
@@ -30,3 +33,25 @@ modest-parts t e =
     let front = and-parts (nearPoint (t .a)) (nearPoint (t .b)) (halves .0) in
     let rest = and-parts (nearPoint (t .c)) (ltb (t .k) 4096) (halves .1) in
     record { a = front .0; b = front .1; c = rest .0; k = ltb→lt (t .k) 4096 (subst T (sym (rest .1)) tt) }
+
+-- ---- the verdict, as the check comes to it; ys are the numbers that its view holds
+module _ (zs ys : List ℤ) (same : ys ≡ zs) where
+  pub badly-formed : false ≡ counts zs → plateVerdict zs ≡ 1
+  unfolding plateVerdict
+  badly-formed form = cc
+
+  pub badly-marked : true ≡ counts zs → false ≡ allMarked ys → plateVerdict zs ≡ 1
+  unfolding plateVerdict
+  badly-marked form marks = cc
+
+  pub beyond-limits : true ≡ counts zs → true ≡ allMarked ys → false ≡ modestPlate (plateOf ys) → plateVerdict zs ≡ 2
+  unfolding plateVerdict
+  beyond-limits form marks limits = cc
+
+  pub unlawful : true ≡ counts zs → true ≡ allMarked ys → true ≡ modestPlate (plateOf ys) → false ≡ properPlate (plateOf ys) → plateVerdict zs ≡ 3
+  unfolding plateVerdict
+  unlawful form marks limits triangles = cc
+
+  pub passes : true ≡ counts zs → true ≡ allMarked ys → true ≡ modestPlate (plateOf ys) → true ≡ properPlate (plateOf ys) → plateVerdict zs ≡ 0
+  unfolding plateVerdict
+  passes form marks limits triangles = cc

@@ -1,8 +1,10 @@
 //! Plates as lent numbers: the view, and the check that lets one pass.
 
 pub mod all;
-mod check;
+pub mod check;
+pub mod checked;
 pub mod geometry;
-mod limits;
+pub mod limits;
+pub mod proper;
 mod reads;
 pub mod view;

@@ -4,7 +4,7 @@ ghost use mathlib.Core.Path.{_≡_};
 ghost use Prim.Native.Nat.{ℕ, _+_, _*_, _<_};
 ghost use lib.ListN.{length};
 ghost use Rattle.rules.specs.Limits.{counts};
-ghost use Rattle.rules.specs.Numbers.{triangleCount, outlineCount, pointAt, triangleAt, outlineAt, count};
+ghost use Rattle.rules.specs.Numbers.{triangleCount, outlineCount, pointAt, triangleAt, outlineAt, count, numberAt, outlineStart};
 use crate::view::View;
 use rules::Edge;
 use rules::OutlineEdge;
@@ -70,6 +70,14 @@ impl<'a> View<'a> {
             c: self.point(at + 4),
             k: counted(self.numbers[at + 6]),
         }
+    }
+
+    /// How outline edge `i` is marked: 0 closed, 1 held.
+    pub fn kind(&self, i: usize) -> i64
+        requires { ⌜ i < outlineCount (now (now self .numbers)) ⌝ }
+        ensures { λ r. ⌜ r ≡ numberAt (now (now (self .entry) .numbers)) (outlineStart (now (now (self .entry) .numbers)) i) ⌝ }
+    {
+        self.numbers[2 + 7 * (self.triangle_count() + i)]
     }
 
     pub fn outline(&self, i: usize) -> OutlineEdge
