@@ -6,6 +6,9 @@ use Prim.Native.Nat.{ℕ, zero, suc, _+_, _-_, _<_, _≤_}
 use native.Mathlib.Nat.{add-zero, zero-add}
 use native.Mathlib.Omega.{arith}
 use Rattle.std.specs.Iters.{counting}
+use Rattle.std.specs.shelf.Lists.{folded}
+use Rattle.std.proofs.shelf.Counted.{map-counting-more}
+use Rattle.std.proofs.shelf.Sums.{folded-push}
 use Rattle.std.proofs.shelf.Tests.{and-parts}
 use Rattle.exact.specs.Lists.{every}
 
@@ -49,3 +52,8 @@ at-every-map p f n i e h =
 -- what a loop over the indices answers, of the list
 pub every-listed : {A : Type 0} (p : A → Bool) (f : ℕ → A) (r : Bool) (m n : ℕ) → r ≡ every (λ i. p (f i)) (counting 0 m) → m ≡ n → r ≡ every p (map f (counting 0 n))
 every-listed p f r m n e same = e ∙ ap (λ k. every (λ i. p (f i)) (counting 0 k)) same ∙ sym (every-map p f (counting 0 n))
+
+-- a fold over such a list goes on by one index
+pub folded-listed-more : {A B : Type 0} (g : B → A → B) (b : B) (f : ℕ → A) (i : ℕ) → folded g b (map f (counting 0 (i + 1))) ≡ g (folded g b (map f (counting 0 i))) (f i)
+folded-listed-more g b f i =
+    ap (folded g b) (map-counting-more f 0 i i (zero-add i)) ∙ folded-push g b (map f (counting 0 i)) (f i)

@@ -5,6 +5,7 @@ pub mod check;
 pub mod checked;
 pub mod geometry;
 pub mod limits;
+pub mod points;
 pub mod proper;
 mod reads;
 pub mod view;
