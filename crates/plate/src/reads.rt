@@ -1,10 +1,10 @@
-//! What stands in a plate's numbers: counts, triangles and outline edges.
+//! What stands in a plate's numbers: triangles and outline edges.
 ghost use mathlib.Core.Bool.{true};
 ghost use mathlib.Core.Path.{_≡_};
-ghost use Prim.Native.Nat.{ℕ, _+_, _*_, _<_};
+ghost use Prim.Native.Nat.{_+_, _<_};
 ghost use lib.ListN.{length};
 ghost use Rattle.rules.specs.Limits.{counts};
-ghost use Rattle.rules.specs.Numbers.{triangleCount, outlineCount, pointAt, triangleAt, outlineAt, count, numberAt, outlineStart};
+ghost use Rattle.rules.specs.Numbers.{pointAt, triangleAt, outlineAt, count};
 use crate::view::View;
 use rules::Edge;
 use rules::OutlineEdge;
@@ -33,23 +33,12 @@ impl<'a> View<'a> {
         numbers.len() as i64 == 2 + 7 * (triangles + edges)
     }
 
+    /// The view of numbers that fit.
     pub fn new(numbers: &'a [i64]) -> Self
         requires { ⌜ counts (now numbers) ≡ true ⌝ }
         ensures { λ r. ⌜ now (r .numbers) ≡ now (numbers .entry) ⌝ }
     {
-        View { numbers }
-    }
-
-    pub fn triangle_count(&self) -> usize
-        ensures { λ r. ⌜ r ≡ triangleCount (now (now (self .entry) .numbers)) ⌝ }
-    {
-        counted(self.numbers[0]) as usize
-    }
-
-    pub fn outline_count(&self) -> usize
-        ensures { λ r. ⌜ r ≡ outlineCount (now (now (self .entry) .numbers)) ⌝ }
-    {
-        counted(self.numbers[1]) as usize
+        View { numbers, triangles: counted(numbers[0]) as usize, edges: counted(numbers[1]) as usize }
     }
 
     fn point(&self, at: usize) -> Point
@@ -59,8 +48,9 @@ impl<'a> View<'a> {
         Point { x: self.numbers[at], y: self.numbers[at + 1] }
     }
 
+    /// Triangle `i`.
     pub fn triangle(&self, i: usize) -> Triangle
-        requires { ⌜ i < triangleCount (now (now self .numbers)) ⌝ }
+        requires { ⌜ i < now self .triangles ⌝ }
         ensures { λ r. ⌜ r ≡ triangleAt (now (now (self .entry) .numbers)) i ⌝ }
     {
         let at = 2 + 7 * i;
@@ -72,19 +62,12 @@ impl<'a> View<'a> {
         }
     }
 
-    /// How outline edge `i` is marked: 0 closed, 1 held.
-    pub fn kind(&self, i: usize) -> i64
-        requires { ⌜ i < outlineCount (now (now self .numbers)) ⌝ }
-        ensures { λ r. ⌜ r ≡ numberAt (now (now (self .entry) .numbers)) (outlineStart (now (now (self .entry) .numbers)) i) ⌝ }
-    {
-        self.numbers[2 + 7 * (self.triangle_count() + i)]
-    }
-
+    /// Outline edge `i`.
     pub fn outline(&self, i: usize) -> OutlineEdge
-        requires { ⌜ i < outlineCount (now (now self .numbers)) ⌝ }
+        requires { ⌜ i < now self .edges ⌝ }
         ensures { λ r. ⌜ r ≡ outlineAt (now (now (self .entry) .numbers)) i ⌝ }
     {
-        let at = 2 + 7 * (self.triangle_count() + i);
+        let at = 2 + 7 * (self.triangles + i);
         let edge = Edge { from: self.point(at + 1), to: self.point(at + 3) };
         if counted(self.numbers[at]) == 1 {
             OutlineEdge::Held { edge, from: self.numbers[at + 5], to: self.numbers[at + 6] }

@@ -3,10 +3,17 @@ ghost use denote.Ref.{now};
 ghost use mathlib.Core.Bool.{true};
 ghost use mathlib.Core.Path.{_≡_};
 ghost use Rattle.rules.specs.Limits.{counts};
+ghost use Rattle.rules.specs.Numbers.{triangleCount, outlineCount};
 
-/// A plate that is read out of the numbers it was lent as.
+/// A plate that is read out of the numbers that it was lent as.
 #[derive(Clone, Copy)]
 pub struct View<'a> {
     pub numbers: &'a [i64],
+    /// how many triangles
+    pub triangles: usize,
+    /// how many outline edges
+    pub edges: usize,
     ghost whole: { counts (now numbers) ≡ true },
+    ghost triangles_counted: { triangles ≡ triangleCount (now numbers) },
+    ghost edges_counted: { edges ≡ outlineCount (now numbers) },
 }

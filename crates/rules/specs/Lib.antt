@@ -5,4 +5,3 @@ pub mod Plates
 pub mod Numbers
 pub mod Limits
 pub mod Bounds
-pub mod Refusals

@@ -1,7 +1,5 @@
 //! What the definitions speak of.
 
-mod codes;
-
 /// A point of the plane, with whole coordinates.
 #[derive(Clone, Copy)]
 pub struct Point {
@@ -45,17 +43,4 @@ pub struct Corners {
 pub struct Vector {
     pub x: i64,
     pub y: i64,
-}
-
-/// Why something is refused: the first cause that applies, in this order.
-#[derive(Clone, Copy, PartialEq, Eq, Debug)]
-pub enum Refusal {
-    /// not as many numbers as the counts need, a count out of range, an outline edge of no known kind
-    Form,
-    /// a coordinate, a conductivity or a temperature out of range
-    Limits,
-    /// not a lawful plate
-    Unlawful,
-    /// values too steep, or a number too large
-    Excess,
 }

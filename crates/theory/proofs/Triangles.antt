@@ -12,6 +12,7 @@ use Rattle.rules.specs.declared.Corners.{Corners}
 use Rattle.rules.specs.declared.Vector.{Vector}
 use Rattle.rules.specs.Triangles.{area2, weighed, turned, norm, around}
 use Rattle.rules.specs.Parts.{Part, atA, atB, atC, between}
+use Rattle.rules.proofs.Norms.{norm-is}
 use Rattle.rules.specs.Laws.{Cross, Squares, LocalLaw, PartsAlike}
 
 -- ---- expressions for the corners' coordinates and for two sets of values; their numbers are `numbers t u s`
@@ -58,15 +59,6 @@ pub cross : Cross
 unfolding area2 weighed turned around
 cross t u s =
     solve (numbers t u s) ((Weighed U X ⊗ Weighed S Y) ⊝ (Weighed U Y ⊗ Weighed S X)) (Area X Y ⊗ Around U S) tt
-
--- a square of sizes is the square of the numbers
-size-squared : (z : ℤ) → pos (natAbs z * natAbs z) ≡ z *ℤ z
-size-squared (pos n) = refl
-size-squared (negsuc n) = refl
-
-pub norm-is : (v : Vector) → pos (norm v) ≡ (v .x *ℤ v .x) +ℤ (v .y *ℤ v .y)
-unfolding norm
-norm-is v = ap₂ _+ℤ_ (size-squared (v .x)) (size-squared (v .y))
 
 abbrev Square : Expr → Expr
 Square e = e ⊗ e
