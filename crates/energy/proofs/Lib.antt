@@ -1,2 +1,4 @@
 pub mod Places
+pub mod Reach
+pub mod Totals
 pub mod Within

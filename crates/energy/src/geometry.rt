@@ -4,7 +4,8 @@ ghost use mathlib.Core.Path.{_≡_};
 ghost use Prim.Native.Nat.{_<_, _≤_, _^_};
 ghost use lib.IntN.{natAbs, _-ℤ_, _*ℤ_};
 ghost use Rattle.rules.specs.Limits.{nearPoint, modest};
-ghost use Rattle.rules.specs.Triangles.{area2};
+ghost use Rattle.rules.specs.Triangles.{area2, proper};
+ghost use Rattle.energy.specs.Reads.{Reads};
 use exact::product;
 use rules::Point;
 use rules::Triangle;
@@ -32,10 +33,19 @@ fn spanned(v: &Vector, w: &Vector) -> i64
 }
 
 /// Twice the area of a triangle, above 0 where its corners go against the clock.
-pub fn twice_area(t: &Triangle) -> i64
+fn twice_area(t: &Triangle) -> i64
     requires { ⌜ modest (now t) ≡ true ⌝ }
     ensures value { λ r. ⌜ r ≡ area2 (now (t .entry)) ⌝ }
     ensures size { λ r. ⌜ natAbs r ≤ 2 ^ 33 ⌝ }
 {
     spanned(&difference(&t.a, &t.b), &difference(&t.a, &t.c))
+}
+
+/// Twice the area of a triangle, or `None` where it is not proper.
+pub fn proper_area(t: &Triangle) -> Option<u64>
+    requires { ⌜ modest (now t) ≡ true ⌝ }
+    ensures { λ r. ⌜ Reads r (proper (now (t .entry))) (natAbs (area2 (now (t .entry)))) (λ n. (0 < n) × (n ≤ 2 ^ 33) × (0 < now (t .entry) .k)) ⌝ }
+{
+    let area = twice_area(t);
+    if area > 0 && t.k > 0 { Some(area as u64) } else { None }
 }

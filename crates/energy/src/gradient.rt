@@ -5,6 +5,7 @@ ghost use Prim.Native.Nat.{_<_, _≤_, _^_};
 ghost use lib.IntN.{natAbs, _+ℤ_, _*ℤ_};
 ghost use Rattle.rules.specs.Limits.{modest, nearCorners, gentle};
 ghost use Rattle.rules.specs.Triangles.{turned, norm as normOf};
+ghost use Rattle.energy.specs.Reads.{Reads};
 ghost use Rattle.energy.specs.Short.{Short};
 use crate::geometry::difference;
 use exact::product;
@@ -36,11 +37,22 @@ pub fn turned_gradient(t: &Triangle, u: &Corners) -> Vector
     }
 }
 
-/// The square of a vector's length.
-pub fn squared_length(v: &Vector) -> u64
+/// The square of the length of a vector that is not too steep.
+fn squared(v: &Vector) -> u64
     requires { ⌜ gentle (now v) ≡ true ⌝ }
     ensures is { λ r. ⌜ r ≡ normOf (now (v .entry)) ⌝ }
     ensures small { λ r. ⌜ r < 2 ^ 61 ⌝ }
 {
     (product(v.x, v.x) + product(v.y, v.y)) as u64
+}
+
+/// The square of a vector's length, or `None` where it is too steep.
+pub fn squared_length(v: &Vector) -> Option<u64>
+    ensures { λ r. ⌜ Reads r (gentle (now (v .entry))) (normOf (now (v .entry))) (λ n. n < 2 ^ 61) ⌝ }
+{
+    if v.x.unsigned_abs() < 1 << 30 && v.y.unsigned_abs() < 1 << 30 {
+        Some(squared(v))
+    } else {
+        None
+    }
 }

@@ -3,4 +3,6 @@
 mod geometry;
 mod gradient;
 mod limits;
+mod quotients;
+mod sums;
 pub mod values;

@@ -1,11 +1,11 @@
-//! The tests that a triangle, values and their gradient are within the limits.
+//! The tests that a triangle and values are within the limits.
+ghost use mathlib.Core.Bool.{_&&_};
 ghost use mathlib.Core.Path.{_≡_};
 ghost use Prim.Native.Nat.{_^_};
-ghost use Rattle.rules.specs.Limits.{near, nearPoint, nearCorners, modest, gentle};
+ghost use Rattle.rules.specs.Limits.{near, nearPoint, nearCorners, modest};
 use rules::Corners;
 use rules::Point;
 use rules::Triangle;
-use rules::Vector;
 
 fn near_point(p: &Point) -> bool
     ensures { λ r. ⌜ r ≡ nearPoint (now (p .entry)) ⌝ }
@@ -14,7 +14,7 @@ fn near_point(p: &Point) -> bool
 }
 
 /// Whether a triangle's coordinates and its conductivity are within the limits.
-pub fn is_modest(t: &Triangle) -> bool
+fn is_modest(t: &Triangle) -> bool
     ensures { λ r. ⌜ r ≡ modest (now (t .entry)) ⌝ }
 {
     near_point(&t.a) && near_point(&t.b) && near_point(&t.c) && t.k < 4096
@@ -28,15 +28,15 @@ pub fn is_near(z: i64) -> bool
 }
 
 /// Whether values are within the limits.
-pub fn are_near(u: &Corners) -> bool
+fn are_near(u: &Corners) -> bool
     ensures { λ r. ⌜ r ≡ nearCorners (now (u .entry)) ⌝ }
 {
     is_near(u.a) && is_near(u.b) && is_near(u.c)
 }
 
-/// Whether a turned gradient is not too steep to be squared.
-pub fn is_gentle(v: &Vector) -> bool
-    ensures { λ r. ⌜ r ≡ gentle (now (v .entry)) ⌝ }
+/// Whether a triangle and the values at its corners are within the limits.
+pub fn are_within(t: &Triangle, u: &Corners) -> bool
+    ensures { λ r. ⌜ r ≡ (modest (now (t .entry)) && nearCorners (now (u .entry))) ⌝ }
 {
-    v.x.unsigned_abs() < 1 << 30 && v.y.unsigned_abs() < 1 << 30
+    is_modest(t) && are_near(u)
 }

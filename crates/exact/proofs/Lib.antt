@@ -1,3 +1,4 @@
+pub mod Capped
 pub mod Certificates
 pub mod Fractions
 pub mod Integers

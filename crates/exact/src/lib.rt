@@ -19,7 +19,7 @@ pub fn ceil_div(n: u64, d: u64) -> u64
 }
 
 /// The number itself, or `None` where it reaches `CAP`.
-fn kept(n: u64) -> Option<u64>
+pub fn below_cap(n: u64) -> Option<u64>
     ensures { λ r. ⌜ r ≡ capped n ⌝ }
 {
     if n < CAP { Some(n) } else { None }
@@ -29,14 +29,14 @@ fn kept(n: u64) -> Option<u64>
 pub fn capped_product(a: u64, b: u64) -> Option<u64>
     ensures { λ r. ⌜ r ≡ capped (a * b) ⌝ }
 {
-    kept(a.checked_mul(b)?)
+    below_cap(a.checked_mul(b)?)
 }
 
 /// The sum, or `None` where it reaches `CAP`.
 pub fn capped_sum(a: u64, b: u64) -> Option<u64>
     ensures { λ r. ⌜ r ≡ capped (a + b) ⌝ }
 {
-    kept(a.checked_add(b)?)
+    below_cap(a.checked_add(b)?)
 }
 
 /// The product of two signed factors, each below `2^31` in size.

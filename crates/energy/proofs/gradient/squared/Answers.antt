@@ -11,7 +11,7 @@ use Rattle.rules.specs.Triangles.{norm}
 use Rattle.rules.proofs.Norms.{norm-is}
 use Rattle.exact.proofs.Machine.{Known, back, known, known-product, known-sum}
 use Rattle.energy.proofs.Within.{gentle-parts}
-use Rattle.energy.proofs.gradient.squared_length.Needs as need
+use Rattle.energy.proofs.gradient.squared.Needs as need
 
 all : (c : need.After-product-2) →
     let v = c .args .v .now in
