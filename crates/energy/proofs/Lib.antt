@@ -2,3 +2,4 @@ pub mod Places
 pub mod Reach
 pub mod Totals
 pub mod Within
+pub mod Works

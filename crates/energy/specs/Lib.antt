@@ -1,3 +1,4 @@
+pub mod Ends
 pub mod Reads
 pub mod Short
 pub mod Terms

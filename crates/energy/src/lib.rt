@@ -1,8 +1,10 @@
 //! What a field spends and a stream says, and the two numbers.
 
+mod ends;
 mod geometry;
 mod gradient;
 mod limits;
+mod outline;
 mod quotients;
 mod sums;
 pub mod values;

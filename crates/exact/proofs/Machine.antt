@@ -1,4 +1,4 @@
--- Signed arithmetic of 64 bits, at numbers whose sizes are bounded: each operand goes to bits and back, and nothing is lost. Assumes nothing.
+-- Signed arithmetic of 64 bits, at numbers whose sizes are bounded: each number goes to bits and back, and nothing is lost. Assumes nothing.
 use mathlib.Core.Path.{_≡_, sym, ap₂, subst, _∙_}
 use Prim.Native.Nat.{ℕ, _+_, _*_, _<_, _≤_, _^_}
 use native.Mathlib.Omega.{arith}
@@ -12,23 +12,26 @@ use Rattle.exact.proofs.Products.{natAbs-*ℤ-≤}
 abbrev pub back : ℤ → ℤ
 back z = toZ w64 (ofZ w64 z)
 
--- the machine's number x is the number z, of size m at most
-pub record Known (x z : ℤ) (m : ℕ) : Type 0 where
-  pub fits : SFits w64 x
-  pub is : back x ≡ z
+-- an operand x is the number z, of size m at most
+pub record Operand (x z : ℤ) (m : ℕ) : Type 0 where
+  pub is : x ≡ z
   pub size : natAbs z ≤ m
 
-pub known : (z : ℤ) (m : ℕ) → SFits w64 z → natAbs z ≤ m → Known z z m
-known z m fits size = record { fits = fits; is = toZ-ofZ w64 z fits; size = size }
+-- the same of a result, which fits and is read back
+pub record Result (x z : ℤ) (m : ℕ) : Type 0 where
+  pub fits : SFits w64 x
+  pub read : Operand (back x) z m
 
--- what is known of the parts is known of their sum, their difference and their product
+pub operand : (z : ℤ) (m : ℕ) → SFits w64 z → natAbs z ≤ m → Operand (back z) z m
+operand z m fits size = record { is = toZ-ofZ w64 z fits; size = size }
+
 small-fits : (z : ℤ) (m : ℕ) → natAbs z ≤ m → m < 2 ^ 63 → SFits w64 z
 small-fits z m h small = omega (arith, ints)
 
-made : (x z : ℤ) (m : ℕ) → x ≡ z → natAbs z ≤ m → m < 2 ^ 63 → Known x z m
-made x z m e size small =
+result : (x z : ℤ) (m : ℕ) → x ≡ z → natAbs z ≤ m → m < 2 ^ 63 → Result x z m
+result x z m e size small =
     let fits : SFits w64 x = subst (SFits w64) (sym e) (small-fits z m size small) in
-    record { fits = fits; is = toZ-ofZ w64 x fits ∙ e; size = size }
+    record { fits = fits; read = record { is = toZ-ofZ w64 x fits ∙ e; size = size } }
 
 sum-size : (a b : ℤ) (m n : ℕ) → natAbs a ≤ m → natAbs b ≤ n → natAbs (a +ℤ b) ≤ m + n
 sum-size a b m n h k = omega (arith, ints)
@@ -36,13 +39,17 @@ sum-size a b m n h k = omega (arith, ints)
 difference-size : (a b : ℤ) (m n : ℕ) → natAbs a ≤ m → natAbs b ≤ n → natAbs (a -ℤ b) ≤ m + n
 difference-size a b m n h k = omega (arith, ints)
 
-module _ {x y a b : ℤ} {m n : ℕ} (p : Known x a m) (q : Known y b n) where
-  pub known-sum : m + n < 2 ^ 63 → Known (back x +ℤ back y) (a +ℤ b) (m + n)
-  known-sum small = made _ (a +ℤ b) (m + n) (ap₂ _+ℤ_ (p .is) (q .is)) (sum-size a b m n (p .size) (q .size)) small
+module _ {x y a b : ℤ} {m n : ℕ} (p : Operand x a m) (q : Operand y b n) where
+  pub sum : m + n < 2 ^ 63 → Result (x +ℤ y) (a +ℤ b) (m + n)
+  sum small = result (x +ℤ y) (a +ℤ b) (m + n) (ap₂ _+ℤ_ (p .is) (q .is)) (sum-size a b m n (p .size) (q .size)) small
 
-  pub known-difference : m + n < 2 ^ 63 → Known (back x -ℤ back y) (a -ℤ b) (m + n)
-  known-difference small = made _ (a -ℤ b) (m + n) (ap₂ _-ℤ_ (p .is) (q .is)) (difference-size a b m n (p .size) (q .size)) small
+  pub difference : m + n < 2 ^ 63 → Result (x -ℤ y) (a -ℤ b) (m + n)
+  difference small = result (x -ℤ y) (a -ℤ b) (m + n) (ap₂ _-ℤ_ (p .is) (q .is)) (difference-size a b m n (p .size) (q .size)) small
 
   -- r is what the call of `product` answers
-  pub known-product : (r : ℤ) → r ≡ back x *ℤ back y → m * n < 2 ^ 63 → Known r (a *ℤ b) (m * n)
-  known-product r e small = made r (a *ℤ b) (m * n) (e ∙ ap₂ _*ℤ_ (p .is) (q .is)) (natAbs-*ℤ-≤ a b m n (p .size) (q .size)) small
+  pub product : (r : ℤ) → r ≡ x *ℤ y → m * n < 2 ^ 63 → Result r (a *ℤ b) (m * n)
+  product r e small = result r (a *ℤ b) (m * n) (e ∙ ap₂ _*ℤ_ (p .is) (q .is)) (natAbs-*ℤ-≤ a b m n (p .size) (q .size)) small
+
+-- the size of a result, as it is read back
+pub read-size : {x z : ℤ} {m : ℕ} → Result x z m → natAbs (back x) ≤ m
+read-size {x} {z} {m} r = subst (λ y. natAbs y ≤ m) (sym (r .read .is)) (r .read .size)

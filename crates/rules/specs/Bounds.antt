@@ -1,15 +1,17 @@
 -- The two numbers: rounded quotient by quotient, so that each is on its safe side. Assumes nothing.
-use mathlib.Core.Bool.{Bool}
+use mathlib.Core.Bool.{Bool, _&&_}
 use mathlib.Core.List.{List}
-use Prim.Native.Nat.{ℕ, _*_}
+use Prim.Native.Nat.{ℕ, _*_, _^_}
+use lib.Dec.{ltb}
 use lib.IntN.{ℤ, pos, _+ℤ_, _-ℤ_, _*ℤ_, natAbs}
 use Rattle.std.specs.shelf.Lists.{sumBy}
 use Rattle.exact.specs.Rounding.{up}
-use Rattle.exact.specs.Lists.{sumZ}
+use Rattle.exact.specs.Lists.{sumZ, every}
 use Rattle.rules.specs.declared.Triangle.{Triangle}
 use Rattle.rules.specs.declared.Corners.{Corners}
 use Rattle.rules.specs.declared.OutlineEdge.{OutlineEdge}
 use Rattle.rules.specs.declared.OutlineEdge.the-variants.{Closed, Held}
+use Rattle.rules.specs.Limits.{inReach, inReachAlong}
 use Rattle.rules.specs.Triangles.{area2, turned, norm}
 use Rattle.rules.specs.Plates.{Plate, Values, cornersOf}
 
@@ -36,3 +38,10 @@ work s bs = sumZ (workAlong s) bs
 
 abbrev pub lower : Values → Plate → ℤ
 lower s m = work s (m .outline) -ℤ pos (upDrag s (m .triangles))
+
+-- ---- the plates and values whose numbers are computed: all parts are in reach, and the sum of quotients is below 2^62
+abbrev pub upperInReach : Values → Plate → Bool
+upperInReach u m = every (inReach u) (m .triangles) && ltb (upper u (m .triangles)) (2 ^ 62)
+
+abbrev pub lowerInReach : Values → Plate → Bool
+lowerInReach s m = every (inReachAlong s) (m .outline) && (every (inReach s) (m .triangles) && ltb (upDrag s (m .triangles)) (2 ^ 62))
