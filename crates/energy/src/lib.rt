@@ -4,6 +4,7 @@ mod ends;
 mod geometry;
 mod gradient;
 mod limits;
+pub mod numbers;
 mod outline;
 mod quotients;
 mod sums;
