@@ -1,17 +1,22 @@
 //! The two numbers.
-ghost use mathlib.Core.Bool.{cond};
+ghost use mathlib.Core.Bool.{cond, false};
 ghost use mathlib.Core.Path.{_≡_};
 ghost use Rattle.std.specs.declared.option.Option.the-variants.{Some, None};
-ghost use Rattle.rules.specs.Bounds.{upper as upperOf, lower as lowerOf, upperInReach, lowerInReach};
+ghost use Rattle.rules.specs.Bounds.{upper as upperOf, lower as lowerOf, upperInReach, lowerInReach, bothInReach, TwoNumbers};
 ghost use Rattle.rules.specs.Numbers.{plateOf, trianglesOf};
+ghost use Rattle.rules.specs.Plates.{valuesAt};
+ghost use Rattle.std.specs.Options.{Cases as BySome};
 use crate::outline::work;
 use crate::quotients::Dragged;
 use crate::quotients::DraggedQuotient;
 use crate::quotients::Spent;
 use crate::quotients::SpentQuotient;
 use crate::sums::total;
+use crate::values::Listed;
+use crate::values::ListedValues;
 use crate::values::Values;
 use plate::view::View;
+use rules::Point;
 
 /// The upper number of values on a plate, or `None` where it is out of reach.
 pub fn upper<V: Values>(plate: &View, u: &V) -> Option<u64>
@@ -27,4 +32,27 @@ pub fn lower<V: Values>(plate: &View, s: &V) -> Option<i64>
     let work = work(plate, s)?;
     let drag = total(&Dragged, plate, s)?;
     Some(work - drag as i64)
+}
+
+/// The two numbers: what the heat that goes through lies between.
+#[derive(Clone, Copy)]
+pub struct Bracket {
+    pub lower: i64,
+    pub upper: u64,
+}
+
+/// The two numbers of a plate, a field and a stream, each as its numbers, or `None` where they are out of reach.
+pub fn bounds(plate: &[i64], points: &[Point], field: &[i64], stream: &[i64]) -> Option<Bracket>
+    ensures refused { λ r. ⌜ (r ≡ None → bothInReach (now (plate .entry)) (valuesAt (now (points .entry)) (now (field .entry))) (valuesAt (now (points .entry)) (now (stream .entry))) ≡ false) ⌝ }
+    ensures answered { λ r. ⌜ BySome r (Unit {0}) (λ b. TwoNumbers (now (plate .entry)) (valuesAt (now (points .entry)) (now (field .entry))) (valuesAt (now (points .entry)) (now (stream .entry))) (b .lower) (b .upper)) ⌝ }
+{
+    if !View::fits(plate) {
+        return None;
+    }
+    let view = View::new(plate);
+    let stream = Listed { points, numbers: stream };
+    let field = Listed { points: stream.points, numbers: field };
+    let lower = lower(&view, &stream)?;
+    let upper = upper(&view, &field)?;
+    Some(Bracket { lower, upper })
 }

@@ -44,12 +44,12 @@ fn place_of(p: &Point, points: &[Point]) -> usize
 
 /// Lent numbers, one for each of the points in their order; nought anywhere else.
 #[derive(Clone, Copy)]
-pub struct Listed<'a> {
-    pub points: &'a [Point],
-    pub numbers: &'a [i64],
+pub struct Listed<'p, 'n> {
+    pub points: &'p [Point],
+    pub numbers: &'n [i64],
 }
 
-pub impl<'a> Values for Listed<'a> as ListedValues {
+pub impl<'p, 'n> Values for Listed<'p, 'n> as ListedValues {
     ghost value = { λ s. valuesAt (now (s .points)) (now (s .numbers)) };
 
     fn at(&self, p: &Point) -> i64 {

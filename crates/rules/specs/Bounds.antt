@@ -1,5 +1,6 @@
 -- The two numbers: rounded quotient by quotient, so that each is on its safe side. Assumes nothing.
-use mathlib.Core.Bool.{Bool, _&&_}
+use mathlib.Core.Path.{_≡_}
+use mathlib.Core.Bool.{Bool, true, _&&_}
 use mathlib.Core.List.{List}
 use Prim.Native.Nat.{ℕ, _*_, _^_}
 use lib.Dec.{ltb}
@@ -11,7 +12,8 @@ use Rattle.rules.specs.declared.Triangle.{Triangle}
 use Rattle.rules.specs.declared.Corners.{Corners}
 use Rattle.rules.specs.declared.OutlineEdge.{OutlineEdge}
 use Rattle.rules.specs.declared.OutlineEdge.the-variants.{Closed, Held}
-use Rattle.rules.specs.Limits.{inReach, inReachAlong}
+use Rattle.rules.specs.Limits.{counts, inReach, inReachAlong}
+use Rattle.rules.specs.Numbers.{plateOf}
 use Rattle.rules.specs.Triangles.{area2, turned, norm}
 use Rattle.rules.specs.Plates.{Plate, Values, cornersOf}
 
@@ -45,3 +47,13 @@ upperInReach u m = every (inReach u) (m .triangles) && ltb (upper u (m .triangle
 
 abbrev pub lowerInReach : Values → Plate → Bool
 lowerInReach s m = every (inReachAlong s) (m .outline) && (every (inReach s) (m .triangles) && ltb (upDrag s (m .triangles)) (2 ^ 62))
+
+-- a plate's numbers zs, a field u and a stream s whose two numbers are computed
+abbrev pub bothInReach : List ℤ → Values → Values → Bool
+bothInReach zs u s = counts zs && (lowerInReach s (plateOf zs) && upperInReach u (plateOf zs))
+
+-- low and high are the two numbers
+pub record TwoNumbers (zs : List ℤ) (u s : Values) (low : ℤ) (high : ℕ) : Type 0 where
+  pub reach : bothInReach zs u s ≡ true
+  pub is-lower : low ≡ lower s (plateOf zs)
+  pub is-upper : high ≡ upper u (plateOf zs .triangles)
