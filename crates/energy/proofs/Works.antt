@@ -60,8 +60,9 @@ module _ {s : Values} {test : Bool} {all sum : ℤ} {list : ℕ → OutlineEdge}
   -- y is the next sum, as the machine has it
   pub one-more : (z y : ℤ) → y ≡ sum +ℤ z → inReachAlong s b ≡ true → z ≡ workAlong s b → natAbs z ≤ 2 ^ 42 →
       (every (inReachAlong s) (from list n (i + 1)) ≡ test) × (y +ℤ sumZ (workAlong s) (from list n (i + 1)) ≡ all) × (natAbs y ≤ (i + 1) * 2 ^ 42)
-  one-more z y next reach is size =
-      (every-goes-on (inReachAlong s) test (from list n i) (from list n (i + 1)) b (turn .tested) first reach,
-      ap (λ w. w +ℤ sumZ (workAlong s) (from list n (i + 1))) next
-      ∙ regroup sum _ z _ all (turn .total) (ap (sumZ (workAlong s)) first ∙ ap (λ w. w +ℤ sumZ (workAlong s) (from list n (i + 1))) (sym is)),
-      subst (λ w. natAbs w ≤ (i + 1) * 2 ^ 42) (sym next) (larger sum z i (turn .size) size))
+  one-more z y next reach is size = (
+    every-goes-on (inReachAlong s) test (from list n i) (from list n (i + 1)) b (turn .tested) first reach,
+    ap (λ w. w +ℤ sumZ (workAlong s) (from list n (i + 1))) next
+        ∙ regroup sum _ z _ all (turn .total) (ap (sumZ (workAlong s)) first ∙ ap (λ w. w +ℤ sumZ (workAlong s) (from list n (i + 1))) (sym is)),
+    subst (λ w. natAbs w ≤ (i + 1) * 2 ^ 42) (sym next) (larger sum z i (turn .size) size),
+  )

@@ -19,7 +19,10 @@ pub fn difference(from: &Point, to: &Point) -> Vector
     ensures y { λ r. ⌜ r .y ≡ now (to .entry) .y -ℤ now (from .entry) .y ⌝ }
     ensures short { λ r. ⌜ (natAbs (r .x) ≤ 2 ^ 16) × (natAbs (r .y) ≤ 2 ^ 16) ⌝ }
 {
-    Vector { x: to.x - from.x, y: to.y - from.y }
+    Vector {
+        x: to.x - from.x,
+        y: to.y - from.y,
+    }
 }
 
 /// Twice the area of the triangle that two ways from one corner span, with its sign.
@@ -47,5 +50,9 @@ pub fn proper_area(t: &Triangle) -> Option<u64>
     ensures { λ r. ⌜ Reads r (proper (now (t .entry))) (natAbs (area2 (now (t .entry)))) (λ n. (0 < n) × (n ≤ 2 ^ 33) × (0 < now (t .entry) .k)) ⌝ }
 {
     let area = twice_area(t);
-    if area > 0 && t.k > 0 { Some(area as u64) } else { None }
+    if area > 0 && t.k > 0 {
+        Some(area as u64)
+    } else {
+        None
+    }
 }

@@ -32,8 +32,22 @@ pub fn turned_gradient(t: &Triangle, u: &Corners) -> Vector
     let ca = difference(&t.c, &t.a);
     let ab = difference(&t.a, &t.b);
     Vector {
-        x: weighed(u, &Corners { a: bc.x, b: ca.x, c: ab.x }),
-        y: weighed(u, &Corners { a: bc.y, b: ca.y, c: ab.y }),
+        x: weighed(
+            u,
+            &Corners {
+                a: bc.x,
+                b: ca.x,
+                c: ab.x,
+            },
+        ),
+        y: weighed(
+            u,
+            &Corners {
+                a: bc.y,
+                b: ca.y,
+                c: ab.y,
+            },
+        ),
     }
 }
 

@@ -50,8 +50,14 @@ pub fn bounds(plate: &[i64], points: &[Point], field: &[i64], stream: &[i64]) ->
         return None;
     }
     let view = View::new(plate);
-    let stream = Listed { points, numbers: stream };
-    let field = Listed { points: stream.points, numbers: field };
+    let stream = Listed {
+        points,
+        numbers: stream,
+    };
+    let field = Listed {
+        points: stream.points,
+        numbers: field,
+    };
     let lower = lower(&view, &stream)?;
     let upper = upper(&view, &field)?;
     Some(Bracket { lower, upper })

@@ -50,8 +50,14 @@ fn work_along<V: Values>(b: &OutlineEdge, s: &V) -> Option<i64>
     match b {
         OutlineEdge::Closed { edge: _ } => Some(0),
         OutlineEdge::Held { edge, from, to } => {
-            let held = Ends { from: *from, to: *to };
-            let stream = Ends { from: s.at(&edge.from), to: s.at(&edge.to) };
+            let held = Ends {
+                from: *from,
+                to: *to,
+            };
+            let stream = Ends {
+                from: s.at(&edge.from),
+                to: s.at(&edge.to),
+            };
             held_work_within(&held, &stream)
         }
     }

@@ -17,10 +17,14 @@ pub trait Values {
 }
 
 /// The values at the corners of a triangle.
-pub fn corners<V: Values>(u: &V, t: &Triangle) -> Corners
+pub(crate) fn corners<V: Values>(u: &V, t: &Triangle) -> Corners
     ensures { λ r. ⌜ r ≡ cornersOf (value (now (u .entry))) (now (t .entry)) ⌝ }
 {
-    Corners { a: u.at(&t.a), b: u.at(&t.b), c: u.at(&t.c) }
+    Corners {
+        a: u.at(&t.a),
+        b: u.at(&t.b),
+        c: u.at(&t.c),
+    }
 }
 
 /// Whether two points are at one place.
@@ -54,6 +58,10 @@ pub impl<'p, 'n> Values for Listed<'p, 'n> as ListedValues {
 
     fn at(&self, p: &Point) -> i64 {
         let i = place_of(p, self.points);
-        if i < self.numbers.len() { self.numbers[i] } else { 0 }
+        if i < self.numbers.len() {
+            self.numbers[i]
+        } else {
+            0
+        }
     }
 }

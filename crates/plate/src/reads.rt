@@ -38,14 +38,21 @@ impl<'a> View<'a> {
         requires { ⌜ counts (now numbers) ≡ true ⌝ }
         ensures { λ r. ⌜ now (r .numbers) ≡ now (numbers .entry) ⌝ }
     {
-        View { numbers, triangles: counted(numbers[0]) as usize, edges: counted(numbers[1]) as usize }
+        View {
+            numbers,
+            triangles: counted(numbers[0]) as usize,
+            edges: counted(numbers[1]) as usize,
+        }
     }
 
     fn point(&self, at: usize) -> Point
         requires { ⌜ at + 1 < length (now (now self .numbers)) ⌝ }
         ensures { λ r. ⌜ r ≡ pointAt (now (now (self .entry) .numbers)) at ⌝ }
     {
-        Point { x: self.numbers[at], y: self.numbers[at + 1] }
+        Point {
+            x: self.numbers[at],
+            y: self.numbers[at + 1],
+        }
     }
 
     /// Triangle `i`.
@@ -68,9 +75,16 @@ impl<'a> View<'a> {
         ensures { λ r. ⌜ r ≡ outlineAt (now (now (self .entry) .numbers)) i ⌝ }
     {
         let at = 2 + 7 * (self.triangles + i);
-        let edge = Edge { from: self.point(at + 1), to: self.point(at + 3) };
+        let edge = Edge {
+            from: self.point(at + 1),
+            to: self.point(at + 3),
+        };
         if counted(self.numbers[at]) == 1 {
-            OutlineEdge::Held { edge, from: self.numbers[at + 5], to: self.numbers[at + 6] }
+            OutlineEdge::Held {
+                edge,
+                from: self.numbers[at + 5],
+                to: self.numbers[at + 6],
+            }
         } else {
             OutlineEdge::Closed { edge }
         }

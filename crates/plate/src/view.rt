@@ -1,8 +1,8 @@
 //! A plate as its lent numbers, of which there are as many as its two counts say.
 ghost use denote.Ref.{now};
-ghost use mathlib.Core.Bool.{true};
 ghost use mathlib.Core.Path.{_≡_};
-ghost use Rattle.rules.specs.Limits.{counts};
+ghost use Prim.Native.Nat.{_+_, _*_, _≤_};
+ghost use lib.ListN.{length};
 ghost use Rattle.rules.specs.Numbers.{triangleCount, outlineCount};
 
 /// A plate that is read out of the numbers that it was lent as.
@@ -13,7 +13,8 @@ pub struct View<'a> {
     pub triangles: usize,
     /// how many outline edges
     pub edges: usize,
-    ghost whole: { counts (now numbers) ≡ true },
+    ghost sized: { length (now numbers) ≡ 2 + 7 * (triangles + edges) },
+    ghost few: { edges ≤ 65536 },
     ghost triangles_counted: { triangles ≡ triangleCount (now numbers) },
     ghost edges_counted: { edges ≡ outlineCount (now numbers) },
 }

@@ -35,7 +35,7 @@ returns c =
     let ca = c .difference-ca in
     let ab = c .difference-ab in
     let x = coordinate (c .args .u .now) (t .a .x) (t .b .x) (t .c .x) (bc .result .x) (ca .result .x) (ab .result .x) (c .weighed .result) (search needs) (search needs) (search needs)
-        (search needs) (c .weighed .ensures) (bc .ensures .x) (ca .ensures .x) (ab .ensures .x) in
+    (search needs) (c .weighed .ensures) (bc .ensures .x) (ca .ensures .x) (ab .ensures .x) in
     let y = coordinate (c .args .u .now) (t .a .y) (t .b .y) (t .c .y) (bc .result .y) (ca .result .y) (ab .result .y) (c .weighed-2 .result) (search needs) (search needs) (search needs)
-        (search needs) (c .weighed-2 .ensures) (bc .ensures .y) (ca .ensures .y) (ab .ensures .y) in
+    (search needs) (c .weighed-2 .ensures) (bc .ensures .y) (ca .ensures .y) (ab .ensures .y) in
     λ i. record { x = x i; y = y i }

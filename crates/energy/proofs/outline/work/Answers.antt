@@ -35,15 +35,15 @@ held e h = record { is = e; size = h }
 pub returns-in-Break-sum : need.returns-in-Break-sum
 returns-in-Break-sum g c =
     let at =
-        turn (g .V·Values .value (c .args .s .now)) (c .args .plate .now .numbers .now) (c .args .plate .now .edges) (c .loop-i .i) (c .outline .result) (c .loop-i .sum-is) (c .loop-i .inv)
-        (c .loop-i-test .taken) (c .outline .ensures) in
+    turn (g .V·Values .value (c .args .s .now)) (c .args .plate .now .numbers .now) (c .args .plate .now .edges) (c .loop-i .i) (c .outline .result) (c .loop-i .sum-is) (c .loop-i .inv)
+    (c .loop-i-test .taken) (c .outline .ensures) in
     rw (c .from-residual .ensures) (out-of-reach at (c .in-Break-sum .ensures tt))
 
 pub loop-i-again : need.loop-i-again
 loop-i-again g c =
     let at =
-        turn (g .V·Values .value (c .args .s .now)) (c .args .plate .now .numbers .now) (c .args .plate .now .edges) (c .loop-i .i) (c .outline .result) (c .loop-i .sum-is) (c .loop-i .inv)
-        (c .loop-i-test .taken) (c .outline .ensures) in
+    turn (g .V·Values .value (c .args .s .now)) (c .args .plate .now .numbers .now) (c .args .plate .now .edges) (c .loop-i .i) (c .outline .result) (c .loop-i .sum-is) (c .loop-i .inv)
+    (c .loop-i-test .taken) (c .outline .ensures) in
     let z = c .in-Continue-sum .ensures tt in
     let few : c .args .plate .now .edges ≤ 65536 = search needs in
     let e = sum (held (c .loop-i .sum-is) (at .size)) (operand (c .in-Continue-sum .field-0) (2 ^ 42) (search needs) (z .2)) (omega arith) .read .is in

@@ -22,22 +22,22 @@ At quotient u zs n sum i t =
 pub returns-in-Break-term : need.returns-in-Break-term
 returns-in-Break-term g c =
     let turn : At (g .Q·Quotient .quotient (c .args .q .now)) (g .V·Values .value (c .args .u .now)) (c .args .plate .now .numbers .now) (c .args .plate .now .triangles) (c .loop-i .sum)
-            (c .loop-i .i) (c .triangle .result) =
-        record { test = c .loop-i .inv .0; total = c .loop-i .inv .1; within = c .loop-i-test .taken; read = c .triangle .ensures } in
+    (c .loop-i .i) (c .triangle .result) =
+    record { test = c .loop-i .inv .0; total = c .loop-i .inv .1; within = c .loop-i-test .taken; read = c .triangle .ensures } in
     c .from-residual .ensures ∙ term-missing turn (c .term .result) (c .term .ensures) (c .in-Break-term .was tt)
 
 pub returns-in-Break-sum : need.returns-in-Break-sum
 returns-in-Break-sum g c =
     let turn : At (g .Q·Quotient .quotient (c .args .q .now)) (g .V·Values .value (c .args .u .now)) (c .args .plate .now .numbers .now) (c .args .plate .now .triangles) (c .loop-i .sum)
-            (c .loop-i .i) (c .triangle .result) =
-        record { test = c .loop-i .inv .0; total = c .loop-i .inv .1; within = c .loop-i-test .taken; read = c .triangle .ensures } in
+    (c .loop-i .i) (c .triangle .result) =
+    record { test = c .loop-i .inv .0; total = c .loop-i .inv .1; within = c .loop-i-test .taken; read = c .triangle .ensures } in
     c .from-residual-in-Break-sum .ensures
     ∙ sum-missing turn (c .term .result) (c .in-Continue-term .field-0) (c .term .ensures) (c .in-Continue-term .was tt) (c .capped-sum .result) (c .capped-sum .ensures) (c .in-Break-sum .was tt)
 
 pub loop-i-again : need.loop-i-again
 loop-i-again g c =
     let turn : At (g .Q·Quotient .quotient (c .args .q .now)) (g .V·Values .value (c .args .u .now)) (c .args .plate .now .numbers .now) (c .args .plate .now .triangles) (c .loop-i .sum)
-            (c .loop-i .i) (c .triangle .result) =
-        record { test = c .loop-i .inv .0; total = c .loop-i .inv .1; within = c .loop-i-test .taken; read = c .triangle .ensures } in
+    (c .loop-i .i) (c .triangle .result) =
+    record { test = c .loop-i .inv .0; total = c .loop-i .inv .1; within = c .loop-i-test .taken; read = c .triangle .ensures } in
     one-more turn (c .term .result) (c .in-Continue-term .field-0) (c .term .ensures) (c .in-Continue-term .was tt) (c .capped-sum .result) (c .in-Continue-sum .sum) (c .capped-sum .ensures)
     (c .in-Continue-sum .was tt)
