@@ -1,6 +1,7 @@
 -- Signed arithmetic of 64 bits, at numbers whose sizes are bounded: each number goes to bits and back, and nothing is lost. Assumes nothing.
 use mathlib.Core.Path.{_≡_, sym, ap₂, subst, _∙_}
 use Prim.Native.Nat.{ℕ, _+_, _*_, _<_, _≤_, _^_}
+use native.Mathlib.Nat.{lt-of-le-of-lt}
 use native.Mathlib.Omega.{arith}
 use borrow.Author.Differences.{ints}
 use lib.IntN.{ℤ, _+ℤ_, _-ℤ_, _*ℤ_, natAbs}
@@ -50,6 +51,10 @@ module _ {x y a b : ℤ} {m n : ℕ} (p : Operand x a m) (q : Operand y b n) whe
   pub product : (r : ℤ) → r ≡ x *ℤ y → m * n < 2 ^ 63 → Result r (a *ℤ b) (m * n)
   product r e small = result r (a *ℤ b) (m * n) (e ∙ ap₂ _*ℤ_ (p .is) (q .is)) (natAbs-*ℤ-≤ a b m n (p .size) (q .size)) small
 
--- the size of a result, as it is read back
-pub read-size : {x z : ℤ} {m : ℕ} → Result x z m → natAbs (back x) ≤ m
-read-size {x} {z} {m} r = subst (λ y. natAbs y ≤ m) (sym (r .read .is)) (r .read .size)
+-- the size of an operand, as the machine has it
+pub operand-size : {x z : ℤ} {m : ℕ} → Operand x z m → natAbs x ≤ m
+operand-size {m} p = subst (λ y. natAbs y ≤ m) (sym (p .is)) (p .size)
+
+-- an operand that `product` takes
+pub factor : {x z : ℤ} {m : ℕ} → Operand x z m → m < 2 ^ 31 → natAbs x < 2 ^ 31
+factor p small = lt-of-le-of-lt (operand-size p) small

@@ -2,7 +2,7 @@ use Prim.Native.Nat.{_^_}
 use borrow.Author.Needs.{needs}
 use lib.Dec.{lit<}
 use lib.IntN.{_-ℤ_, _*ℤ_}
-use Rattle.exact.proofs.Machine.{Result, back, operand, product, difference, read-size}
+use Rattle.exact.proofs.Machine.{Result, back, operand, product, difference, operand-size}
 use Rattle.energy.proofs.geometry.spanned.Needs as need
 
 all : (c : need.After-product-2) →
@@ -22,4 +22,4 @@ pub sub-result : need.sub-result
 sub-result c = all c .fits
 
 pub returns : need.returns
-returns c = record { value = all c .read .is; size = read-size (all c) }
+returns c = record { value = all c .read .is; size = operand-size (all c .read) }

@@ -2,9 +2,30 @@ use Prim.Native.Nat.{_^_}
 use borrow.Author.Needs.{needs}
 use lib.Dec.{lit<}
 use lib.IntN.{_+ℤ_, _*ℤ_}
-use Rattle.exact.proofs.Machine.{Result, back, operand, product, sum}
+use Rattle.exact.proofs.Machine.{Result, back, factor, operand, product, sum}
 use Rattle.energy.proofs.Within.{near-corners}
 use Rattle.energy.proofs.gradient.weighed.Needs as need
+
+pub product-requires : need.product-requires
+product-requires c κs =
+    record {
+      left = factor (operand (c .args .u .now .a) (2 ^ 20) (search needs) (near-corners (c .args .u .now) (c .pre .near) .0)) (lit< tt);
+      right = factor (operand (c .args .opposite .now .a) (2 ^ 16) (search needs) (c .pre .short .a)) (lit< tt);
+    }
+
+pub product-requires-2 : need.product-requires-2
+product-requires-2 c κs =
+    record {
+      left = factor (operand (c .args .u .now .b) (2 ^ 20) (search needs) (near-corners (c .args .u .now) (c .pre .near) .1)) (lit< tt);
+      right = factor (operand (c .args .opposite .now .b) (2 ^ 16) (search needs) (c .pre .short .b)) (lit< tt);
+    }
+
+pub product-requires-3 : need.product-requires-3
+product-requires-3 c κs =
+    record {
+      left = factor (operand (c .args .u .now .c) (2 ^ 20) (search needs) (near-corners (c .args .u .now) (c .pre .near) .2)) (lit< tt);
+      right = factor (operand (c .args .opposite .now .c) (2 ^ 16) (search needs) (c .pre .short .c)) (lit< tt);
+    }
 
 first : (c : need.After-product-3) → Result (c .product .result) (c .args .u .now .a *ℤ c .args .opposite .now .a) (2 ^ 36)
 first c =
