@@ -1,7 +1,8 @@
 //! Prints the two numbers of a plate, a field and a stream that are built in.
+use energy::numbers::Bracket;
 use energy::numbers::bounds;
 use rules::Point;
-use std::error::AnyError;
+use std::io;
 
 // The unit square in two triangles, as its numbers.
 const SQUARE: [i64; 44] = [
@@ -70,13 +71,9 @@ const FIELD: [i64; 4] = [16, 0, 0, 16];
 
 const STREAM: [i64; 4] = [0, 0, -16, -16];
 
-fn main(rt: LibcRuntime) -> Result<(), AnyError> {
-    let Some(bracket) = bounds(&SQUARE, &POINTS, &FIELD, &STREAM) else {
-        return Err("the two numbers are out of reach".into());
-    };
-    let lower = bracket.lower;
-    let upper = bracket.upper;
-    println!(rt, "lower {lower}")?;
-    println!(rt, "upper {upper}")?;
-    Ok(())
+fn main(rt: LibcRuntime) -> io::Result<()> {
+    match bounds(&SQUARE, &POINTS, &FIELD, &STREAM) {
+        Some(Bracket { lower, upper }) => println!(rt, "lower {lower}\nupper {upper}"),
+        None => println!(rt, "out of reach"),
+    }
 }
