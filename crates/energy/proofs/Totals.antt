@@ -1,18 +1,22 @@
 -- A sum over a list whose terms may be missing, turn by turn. Assumes nothing.
 use mathlib.Core.Path.{_≡_, refl, sym, ap, _∙_}
 use mathlib.Core.Bool.{Bool, true, false, cond}
-use mathlib.Core.List.{List, [], _∷_}
+use mathlib.Core.List.{List, [], _∷_, map}
 use mathlib.Core.Logic.{_⊎_, inl, inr}
 use Prim.Native.Nat.{ℕ, _+_, _≤_, _<_, _^_}
+use native.Mathlib.Nat.{add-zero, zero-add}
 use native.Mathlib.Omega.{arith}
+use lib.Dec.{lit<}
 use Rattle.std.specs.declared.option.Option.{Option}
 use Rattle.std.specs.declared.option.Option.the-variants.{Some, None}
+use Rattle.std.specs.Iters.{counting}
 use Rattle.std.specs.shelf.Lists.{sumBy}
 use Rattle.std.proofs.shelf.Sums.{sumBy-cons}
+use Rattle.std.proofs.shelf.Tests.{lt-ltb}
 use Rattle.exact.specs.Capped.{capped}
 use Rattle.exact.specs.Lists.{every}
 use Rattle.exact.proofs.Capped.{capped-some, capped-none, capped-past}
-use Rattle.exact.proofs.Lists.{from, from-more, every-fails, every-goes-on}
+use Rattle.exact.proofs.Lists.{from, from-start, from-more, from-none, every-fails, every-goes-on}
 
 -- a term that is there where the test passes and it is below the cap
 missing : (b : Bool) (n : ℕ) → cond b (capped n) None ≡ None → (b ≡ false) ⊎ (2 ^ 62 ≤ n)
@@ -26,6 +30,23 @@ there false n m e = let z : _≡_ {A = ℕ} 0 1 = cc in absurd (omega arith)
 neither : (b : Bool) → _≡_ {A = Option ℕ} None (cond b None None)
 neither true = refl
 neither false = refl
+
+-- before the first turn, where m elements are listed
+pub begun : {A : Type 0} (p : A → Bool) (f : A → ℕ) (list : ℕ → A) (n m : ℕ) → n ≡ m →
+    (every p (from list n 0) ≡ every p (map list (counting 0 m))) × (0 + sumBy f (from list n 0) ≡ sumBy f (map list (counting 0 m))) × (0 < 2 ^ 62)
+begun p f list n m same =
+    let start : from list n 0 ≡ map list (counting 0 m) = from-start list n ∙ ap (λ k. map list (counting 0 k)) same in
+    (ap (every p) start, zero-add (sumBy f (from list n 0)) ∙ ap (sumBy f) start, lit< tt)
+
+-- after the last
+pub ended : {A : Type 0} (p : A → Bool) (f : A → ℕ) (b : Bool) (all sum : ℕ) (list : ℕ → A) (n i : ℕ) → n ≤ i → every p (from list n i) ≡ b →
+    sum + sumBy f (from list n i) ≡ all → sum < 2 ^ 62 → Some sum ≡ cond b (capped all) None
+ended p f b all sum list n i last test total small =
+    let none = from-none list n i last in
+    let passes : b ≡ true = sym test ∙ ap (every p) none in
+    let is : all ≡ sum = sym total ∙ ap (λ l. sum + sumBy f l) none ∙ add-zero sum in
+    let kept : capped all ≡ Some sum = ap capped is ∙ ap (λ t. cond t (Some sum) None) (lt-ltb sum (2 ^ 62) small) in
+    sym (ap (λ t. cond t (capped all) None) passes ∙ kept)
 
 -- a turn: of the elements that f lists, n of them, those from index i on are left; those before came to sum
 pub record Turn {A : Type 0} (p : A → Bool) (f : A → ℕ) (b : Bool) (all sum : ℕ) (list : ℕ → A) (n i : ℕ) (t : A) : Type 0 where

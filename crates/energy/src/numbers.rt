@@ -43,8 +43,7 @@ pub struct Bracket {
 
 /// The two numbers of a plate, a field and a stream, each as its numbers, or `None` where they are out of reach.
 pub fn bounds(plate: &[i64], points: &[Point], field: &[i64], stream: &[i64]) -> Option<Bracket>
-    ensures refused { λ r. ⌜ (r ≡ None → bothInReach (now (plate .entry)) (valuesAt (now (points .entry)) (now (field .entry))) (valuesAt (now (points .entry)) (now (stream .entry))) ≡ false) ⌝ }
-    ensures answered { λ r. ⌜ BySome r (Unit {0}) (λ b. TwoNumbers (now (plate .entry)) (valuesAt (now (points .entry)) (now (field .entry))) (valuesAt (now (points .entry)) (now (stream .entry))) (b .lower) (b .upper)) ⌝ }
+    ensures { λ r. ⌜ BySome r (bothInReach (now (plate .entry)) (valuesAt (now (points .entry)) (now (field .entry))) (valuesAt (now (points .entry)) (now (stream .entry))) ≡ false) (λ b. TwoNumbers (now (plate .entry)) (valuesAt (now (points .entry)) (now (field .entry))) (valuesAt (now (points .entry)) (now (stream .entry))) (b .lower) (b .upper)) ⌝ }
 {
     if !View::fits(plate) {
         return None;

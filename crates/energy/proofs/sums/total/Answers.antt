@@ -7,10 +7,10 @@ use Rattle.exact.specs.Lists.{every}
 use Rattle.exact.proofs.Lists.{from}
 use Rattle.rules.specs.declared.Triangle.{Triangle}
 use Rattle.rules.specs.Limits.{inReach}
-use Rattle.rules.specs.Numbers.{triangleAt, trianglesOf}
+use Rattle.rules.specs.Numbers.{triangleCount, triangleAt, trianglesOf}
 use Rattle.rules.specs.Plates.{Values}
 use Rattle.energy.specs.Terms.{termOf}
-use Rattle.energy.proofs.Totals.{Turn, term-missing, sum-missing, one-more}
+use Rattle.energy.proofs.Totals.{begun, ended, Turn, term-missing, sum-missing, one-more}
 use Rattle.energy.proofs.sums.total.Needs as need
 
 -- the turn at triangle i
@@ -41,3 +41,17 @@ loop-i-again g c =
     record { test = c .loop-i .inv .0; total = c .loop-i .inv .1; within = c .loop-i-test .taken; read = c .triangle .ensures } in
     one-more turn (c .term .result) (c .in-Continue-term .field-0) (c .term .ensures) (c .in-Continue-term .was tt) (c .capped-sum .result) (c .in-Continue-sum .sum) (c .capped-sum .ensures)
     (c .in-Continue-sum .was tt)
+
+pub loop-i-holds : need.loop-i-holds
+loop-i-holds g c =
+    let zs = c .args .plate .now .numbers .now in
+    let u = g .V·Values .value (c .args .u .now) in
+    begun (inReach u) (termOf (g .Q·Quotient .quotient (c .args .q .now)) u) (triangleAt zs) (c .args .plate .now .triangles) (triangleCount zs) (c .args .plate .now .«triangles_counted»)
+
+pub returns : need.returns
+returns g c =
+    let zs = c .args .plate .now .numbers .now in
+    let u = g .V·Values .value (c .args .u .now) in
+    let f = termOf (g .Q·Quotient .quotient (c .args .q .now)) u in
+    ended (inReach u) f (every (inReach u) (trianglesOf zs)) (sumBy f (trianglesOf zs)) (c .loop-i .sum) (triangleAt zs) (c .args .plate .now .triangles) (c .loop-i .i) (c .loop-i-test .left)
+    (c .loop-i .inv .0) (c .loop-i .inv .1) (c .loop-i .inv .2)
