@@ -17,7 +17,7 @@ use Rattle.rules.specs.declared.OutlineEdge.the-variants.{Closed, Held}
 use Rattle.rules.specs.Bounds.{workAlong}
 use Rattle.rules.specs.Limits.{near, inReachAlong}
 use Rattle.rules.specs.Plates.{Values}
-use Rattle.energy.specs.Reads.{Reads}
+use Rattle.triangle.specs.Reads.{Reads}
 
 abbrev small : ℤ → Type 0
 small z = natAbs z ≤ 2 ^ 42

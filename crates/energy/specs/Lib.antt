@@ -1,4 +1,1 @@
 pub mod Ends
-pub mod Reads
-pub mod Short
-pub mod Terms

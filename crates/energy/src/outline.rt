@@ -8,18 +8,18 @@ ghost use Rattle.rules.specs.Bounds.{workAlong, work as workOf};
 ghost use Rattle.rules.specs.Limits.{inReachAlong};
 ghost use Rattle.energy.specs.Ends.{nearEnds};
 ghost use Rattle.rules.specs.Numbers.{outlineOf};
-ghost use Rattle.energy.specs.Reads.{Reads};
+ghost use Rattle.triangle.specs.Reads.{Reads};
 use crate::ends::Ends;
-use crate::limits::is_near;
 use crate::values::Values;
 use exact::product;
 use plate::view::View;
+use rules::HOTTEST;
 use rules::OutlineEdge;
 
 fn near_ends(e: &Ends) -> bool
     ensures { λ r. ⌜ r ≡ nearEnds (now (e .entry)) ⌝ }
 {
-    is_near(e.from) && is_near(e.to)
+    e.from.unsigned_abs() <= HOTTEST && e.to.unsigned_abs() <= HOTTEST
 }
 
 /// The work along a held edge: the sum of its temperatures times the stream's difference.

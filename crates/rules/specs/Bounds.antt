@@ -42,11 +42,14 @@ abbrev pub lower : Values → Plate → ℤ
 lower s m = work s (m .outline) -ℤ pos (upDrag s (m .triangles))
 
 -- ---- the plates and values whose numbers are computed: all parts are in reach, and the sum of quotients is below 2^62
+abbrev pub allInReach : Values → List Triangle → Bool
+allInReach u ts = every (λ t. inReach t (cornersOf u t)) ts
+
 abbrev pub upperInReach : Values → Plate → Bool
-upperInReach u m = every (inReach u) (m .triangles) && ltb (upper u (m .triangles)) (2 ^ 62)
+upperInReach u m = allInReach u (m .triangles) && ltb (upper u (m .triangles)) (2 ^ 62)
 
 abbrev pub lowerInReach : Values → Plate → Bool
-lowerInReach s m = every (inReachAlong s) (m .outline) && (every (inReach s) (m .triangles) && ltb (upDrag s (m .triangles)) (2 ^ 62))
+lowerInReach s m = every (inReachAlong s) (m .outline) && (allInReach s (m .triangles) && ltb (upDrag s (m .triangles)) (2 ^ 62))
 
 -- a plate's numbers zs, a field u and a stream s whose two numbers are computed
 abbrev pub bothInReach : List ℤ → Values → Values → Bool

@@ -12,7 +12,7 @@ use Rattle.rules.specs.declared.Corners.{Corners}
 use Rattle.rules.specs.declared.Vector.{Vector}
 use Rattle.rules.specs.declared.OutlineEdge.{OutlineEdge}
 use Rattle.rules.specs.declared.OutlineEdge.the-variants.{Closed, Held}
-use Rattle.rules.specs.Plates.{Values, cornersOf}
+use Rattle.rules.specs.Plates.{Values}
 use Rattle.rules.specs.Numbers.{numberAt, triangleCount, outlineCount}
 use Rattle.rules.specs.Triangles.{proper, turned}
 
@@ -39,9 +39,9 @@ nearCorners u = near (2 ^ 20) (u .a) && (near (2 ^ 20) (u .b) && near (2 ^ 20) (
 abbrev pub gentle : Vector → Bool
 gentle v = ltb (natAbs (v .x)) (2 ^ 30) && ltb (natAbs (v .y)) (2 ^ 30)
 
--- a triangle and values of which the numbers are computed: within the limits, proper, and not too steep
-unfoldable pub inReach : Values → Triangle → Bool
-inReach u t = (modest t && nearCorners (cornersOf u t)) && (proper t && gentle (turned t (cornersOf u t)))
+-- a triangle and values at its corners of which the numbers are computed: within the limits, proper, and not too steep
+unfoldable pub inReach : Triangle → Corners → Bool
+inReach t u = (modest t && nearCorners u) && (proper t && gentle (turned t u))
 
 -- an outline edge and values of which the work is computed: the temperatures and the values at the ends of a held edge are within the limits
 unfoldable pub inReachAlong : Values → OutlineEdge → Bool

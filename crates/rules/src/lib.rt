@@ -1,4 +1,16 @@
-//! What the definitions speak of.
+//! What the definitions speak of, and the limits.
+
+/// No coordinate is farther from 0.
+pub const FARTHEST: u64 = 32768;
+
+/// Each conductivity is below.
+pub const CONDUCTIVITIES: u64 = 4096;
+
+/// No value and no temperature is farther from 0.
+pub const HOTTEST: u64 = 1 << 20;
+
+/// Each coordinate of a turned gradient is below, in size.
+pub const STEEPEST: u64 = 1 << 30;
 
 /// A point of the plane, with whole coordinates.
 #[derive(Clone, Copy)]

@@ -1,10 +1,10 @@
 use mathlib.Core.Path.{_∙_}
 use borrow.Author.Needs.{needs}
 use Rattle.exact.specs.Lists.{every}
-use Rattle.rules.specs.Bounds.{work, upDrag, upDragIn}
-use Rattle.rules.specs.Limits.{inReach, inReachAlong}
+use Rattle.rules.specs.Bounds.{allInReach, work, upDrag, upDragIn}
+use Rattle.rules.specs.Limits.{inReachAlong}
 use Rattle.rules.specs.Numbers.{trianglesOf, outlineOf}
-use Rattle.energy.specs.Terms.{termOf}
+use Rattle.triangle.specs.Terms.{termOf}
 use Rattle.energy.proofs.Answered.{no-work, no-drag, both, less}
 use Rattle.energy.proofs.numbers.lower.Needs as need
 
@@ -13,7 +13,7 @@ returns-in-Break-work g c =
     let zs = c .args .plate .now .numbers .now in
     let s = g .V·Values .value (c .args .s .now) in
     c .from-residual .ensures
-    ∙ no-work (every (inReachAlong s) (outlineOf zs)) (every (inReach s) (trianglesOf zs)) (work s (outlineOf zs)) (upDrag s (trianglesOf zs)) (c .in-Break-work .ensures tt)
+    ∙ no-work (every (inReachAlong s) (outlineOf zs)) (allInReach s (trianglesOf zs)) (work s (outlineOf zs)) (upDrag s (trianglesOf zs)) (c .in-Break-work .ensures tt)
 
 pub returns-in-Break-drag : need.returns-in-Break-drag
 unfolding termOf upDragIn
@@ -21,7 +21,7 @@ returns-in-Break-drag g c =
     let zs = c .args .plate .now .numbers .now in
     let s = g .V·Values .value (c .args .s .now) in
     c .from-residual-in-Break-drag .ensures
-    ∙ no-drag (every (inReachAlong s) (outlineOf zs)) (every (inReach s) (trianglesOf zs)) (work s (outlineOf zs)) (upDrag s (trianglesOf zs)) (c .total .result) (c .total .ensures)
+    ∙ no-drag (every (inReachAlong s) (outlineOf zs)) (allInReach s (trianglesOf zs)) (work s (outlineOf zs)) (upDrag s (trianglesOf zs)) (c .total .result) (c .total .ensures)
     (c .in-Break-drag .was tt)
 
 pub returns : need.returns
@@ -30,5 +30,5 @@ returns g c =
     let zs = c .args .plate .now .numbers .now in
     let s = g .V·Values .value (c .args .s .now) in
     let w = c .in-Continue-work .ensures tt in
-    both (every (inReachAlong s) (outlineOf zs)) (every (inReach s) (trianglesOf zs)) (work s (outlineOf zs)) (upDrag s (trianglesOf zs)) (c .total .result) (c .in-Continue-drag .drag) _
+    both (every (inReachAlong s) (outlineOf zs)) (allInReach s (trianglesOf zs)) (work s (outlineOf zs)) (upDrag s (trianglesOf zs)) (c .total .result) (c .in-Continue-drag .drag) _
     (w .0) (c .total .ensures) (c .in-Continue-drag .was tt) (λ same below. less (c .in-Continue-work .work) (work s (outlineOf zs)) _ _ (search needs) (w .1) (w .2) same below)

@@ -9,7 +9,7 @@ use mir.Val.{SFits}
 use Rattle.std.proofs.shelf.Tests.{and-parts}
 use Rattle.rules.specs.Limits.{near}
 use Rattle.exact.proofs.Machine.{Operand, Result, back, factor, operand, operand-size, sum, difference, product}
-use Rattle.energy.proofs.Within.{near-is}
+use Rattle.triangle.proofs.Within.{near-is}
 use Rattle.energy.proofs.outline.held_work.Needs as need
 
 -- two numbers within the limits, as operands
