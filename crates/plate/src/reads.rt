@@ -4,16 +4,16 @@ ghost use mathlib.Core.Path.{_≡_};
 ghost use Prim.Native.Nat.{_+_, _<_};
 ghost use lib.ListN.{length};
 ghost use Rattle.rules.specs.Limits.{counts};
-ghost use Rattle.rules.specs.Numbers.{pointAt, triangleAt, outlineAt, count};
+ghost use Rattle.rules.specs.Numbers.{pointAt, triangleAt, outlineAt, natural as naturalOf};
 use crate::view::View;
 use rules::Edge;
 use rules::OutlineEdge;
 use rules::Point;
 use rules::Triangle;
 
-/// A number that counts something: 0 where it is negative.
-fn counted(z: i64) -> u64
-    ensures { λ r. ⌜ r ≡ count z ⌝ }
+/// The number, or 0 where it is negative.
+fn natural(z: i64) -> u64
+    ensures { λ r. ⌜ r ≡ naturalOf z ⌝ }
 {
     if z < 0 { 0 } else { z as u64 }
 }
@@ -40,8 +40,8 @@ impl<'a> View<'a> {
     {
         View {
             numbers,
-            triangles: counted(numbers[0]) as usize,
-            edges: counted(numbers[1]) as usize,
+            triangles: natural(numbers[0]) as usize,
+            edges: natural(numbers[1]) as usize,
         }
     }
 
@@ -65,7 +65,7 @@ impl<'a> View<'a> {
             a: self.point(at),
             b: self.point(at + 2),
             c: self.point(at + 4),
-            k: counted(self.numbers[at + 6]),
+            k: natural(self.numbers[at + 6]),
         }
     }
 
@@ -79,7 +79,7 @@ impl<'a> View<'a> {
             from: self.point(at + 1),
             to: self.point(at + 3),
         };
-        if counted(self.numbers[at]) == 1 {
+        if natural(self.numbers[at]) == 1 {
             OutlineEdge::Held {
                 edge,
                 from: self.numbers[at + 5],

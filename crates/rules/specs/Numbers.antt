@@ -17,16 +17,16 @@ use Rattle.rules.specs.Plates.{Plate}
 abbrev pub numberAt : List ℤ → ℕ → ℤ
 numberAt zs i = getD zs i (pos 0)
 
--- a number that counts something: 0 where it is negative
-abbrev pub count : ℤ → ℕ
-count (pos n) = n
-count (negsuc n) = 0
+-- 0 where a number is negative
+abbrev pub natural : ℤ → ℕ
+natural (pos n) = n
+natural (negsuc n) = 0
 
 abbrev pub triangleCount : List ℤ → ℕ
-triangleCount zs = count (numberAt zs 0)
+triangleCount zs = natural (numberAt zs 0)
 
 abbrev pub outlineCount : List ℤ → ℕ
-outlineCount zs = count (numberAt zs 1)
+outlineCount zs = natural (numberAt zs 1)
 
 -- where triangle i begins, and outline edge i
 abbrev pub triangleStart : ℕ → ℕ
@@ -41,13 +41,13 @@ pointAt zs i = record { x = numberAt zs i; y = numberAt zs (i + 1) }
 unfoldable pub triangleAt : List ℤ → ℕ → Triangle
 triangleAt zs i =
     let at = triangleStart i in
-    record { a = pointAt zs at; b = pointAt zs (at + 2); c = pointAt zs (at + 4); k = count (numberAt zs (at + 6)) }
+    record { a = pointAt zs at; b = pointAt zs (at + 2); c = pointAt zs (at + 4); k = natural (numberAt zs (at + 6)) }
 
 unfoldable pub outlineAt : List ℤ → ℕ → OutlineEdge
 outlineAt zs i =
     let at = outlineStart zs i in
     let edge : Edge = record { from = pointAt zs (at + 1); to = pointAt zs (at + 3) } in
-    cond (eqb (count (numberAt zs at)) 1) (Held edge (numberAt zs (at + 5)) (numberAt zs (at + 6))) (Closed edge)
+    cond (eqb (natural (numberAt zs at)) 1) (Held edge (numberAt zs (at + 5)) (numberAt zs (at + 6))) (Closed edge)
 
 abbrev pub trianglesOf : List ℤ → List Triangle
 trianglesOf zs = map (triangleAt zs) (counting 0 (triangleCount zs))
