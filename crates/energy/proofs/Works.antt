@@ -17,23 +17,23 @@ use Rattle.rules.specs.declared.OutlineEdge.the-variants.{Closed, Held}
 use Rattle.rules.specs.Bounds.{workAlong}
 use Rattle.rules.specs.Limits.{near, inReachAlong}
 use Rattle.rules.specs.Plates.{Values}
-use Rattle.triangle.specs.Reads.{Reads}
+use Rattle.exact.specs.Given.{Given}
 
 abbrev small : ℤ → Type 0
 small z = natAbs z ≤ 2 ^ 42
 
 -- nothing along a closed edge
-pub closed : (s : Values) (b : OutlineEdge) (e : Edge) → b ≡ Closed e → Reads (Some (pos 0)) (inReachAlong s b) (workAlong s b) small
+pub closed : (s : Values) (b : OutlineEdge) (e : Edge) → b ≡ Closed e → Given (Some (pos 0)) (inReachAlong s b) (workAlong s b) small
 unfolding workAlong inReachAlong
 closed s b e is = (ap (inReachAlong s) is, sym (ap (workAlong s) is), lit≤ tt)
 
 -- along a held edge, where g, h, p, q were read off it
 pub held : (s : Values) (b : OutlineEdge) (e : Edge) (g h g′ h′ p q : ℤ) → b ≡ Held e g h → g′ ≡ g → h′ ≡ h → p ≡ s (e .from) → q ≡ s (e .to) → (r : Option ℤ) →
-    Reads r ((near (2 ^ 20) g′ && near (2 ^ 20) h′) && (near (2 ^ 20) p && near (2 ^ 20) q)) ((g′ +ℤ h′) *ℤ (q -ℤ p)) small → Reads r (inReachAlong s b) (workAlong s b) small
+    Given r ((near (2 ^ 20) g′ && near (2 ^ 20) h′) && (near (2 ^ 20) p && near (2 ^ 20) q)) ((g′ +ℤ h′) *ℤ (q -ℤ p)) small → Given r (inReachAlong s b) (workAlong s b) small
 unfolding workAlong inReachAlong
 held s b e g h g′ h′ p q is eg eh ep eq r reads =
     let both : ℤ → ℤ → Bool = λ y z. near (2 ^ 20) y && near (2 ^ 20) z in
-    subst₂ (λ t z. Reads r t z small) (ap₂ _&&_ (ap₂ both eg eh) (ap₂ both ep eq) ∙ sym (ap (inReachAlong s) is))
+    subst₂ (λ t z. Given r t z small) (ap₂ _&&_ (ap₂ both eg eh) (ap₂ both ep eq) ∙ sym (ap (inReachAlong s) is))
     (ap₂ _*ℤ_ (ap₂ _+ℤ_ eg eh) (ap₂ _-ℤ_ eq ep) ∙ sym (ap (workAlong s) is)) reads
 
 -- a turn: of the edges that list lists, n of them, those from index i on are left; those before came to sum

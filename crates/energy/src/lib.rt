@@ -4,4 +4,4 @@ mod ends;
 pub mod numbers;
 mod outline;
 mod sums;
-pub mod values;
+mod values;

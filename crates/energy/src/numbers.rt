@@ -13,7 +13,7 @@ use crate::values::ListedValues;
 use crate::values::Values;
 use plate::view::View;
 use rules::Point;
-use triangle::quotients::Kind;
+use triangle::kinds::Kind;
 
 /// The upper number of values on a plate, or `None` where it is out of reach.
 fn upper<V: Values>(plate: &View, u: &V) -> Option<u64>
@@ -31,14 +31,14 @@ fn lower<V: Values>(plate: &View, s: &V) -> Option<i64>
     Some(work - drag as i64)
 }
 
-/// The two numbers: what the heat that goes through lies between.
+/// The lower and the upper number.
 #[derive(Clone, Copy)]
 pub struct Bracket {
     pub lower: i64,
     pub upper: u64,
 }
 
-/// The two numbers of a plate, a field and a stream, each as its numbers, or `None` where they are out of reach.
+/// The two numbers of a plate, a field and a stream, each a row of numbers, or `None` where they are out of reach.
 pub fn bounds(plate: &[i64], points: &[Point], field: &[i64], stream: &[i64]) -> Option<Bracket>
     ensures { λ r. ⌜ BySome r (bothInReach (now (plate .entry)) (valuesAt (now (points .entry)) (now (field .entry))) (valuesAt (now (points .entry)) (now (stream .entry))) ≡ false) (λ b. TwoNumbers (now (plate .entry)) (valuesAt (now (points .entry)) (now (field .entry))) (valuesAt (now (points .entry)) (now (stream .entry))) (b .lower) (b .upper)) ⌝ }
 {

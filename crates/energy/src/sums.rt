@@ -12,7 +12,7 @@ use crate::values::Values;
 use crate::values::corners;
 use exact::capped_sum;
 use plate::view::View;
-use triangle::quotients::Kind;
+use triangle::kinds::Kind;
 use triangle::terms::rounded;
 
 /// The sum of all triangles' quotients, or `None` where a triangle is out of reach or the sum is too large.

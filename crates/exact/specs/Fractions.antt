@@ -1,5 +1,6 @@
--- Fractions, as a numerator and a denominator above 0, never reduced. Assumes nothing.
-use Prim.Native.Nat.{ℕ, _*_, _<_}
+-- Fractions, as a numerator and a denominator, never reduced. They are meant for denominators above 0, which the type does not
+-- say: the laws ask for it where they need it. Assumes nothing.
+use Prim.Native.Nat.{ℕ, _*_}
 use lib.IntN.{ℤ, pos, negℤ, _+ℤ_, _*ℤ_}
 use lib.Signed.{_≤ℤ_}
 

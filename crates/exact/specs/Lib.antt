@@ -1,4 +1,5 @@
 pub mod Capped
 pub mod Fractions
+pub mod Given
 pub mod Lists
 pub mod Rounding

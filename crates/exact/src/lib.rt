@@ -7,7 +7,7 @@ ghost use lib.IntN.{natAbs, _*ℤ_};
 ghost use mathlib.Core.Path.{_≡_};
 
 /// The first number that is too large to be kept by the capped operations.
-pub const CAP: u64 = 1 << 62;
+const CAP: u64 = 1 << 62;
 
 /// The quotient `n / d` rounded up: the least `m` with `n <= m * d`.
 pub fn ceil_div(n: u64, d: u64) -> u64

@@ -7,6 +7,7 @@ ghost use Rattle.rules.specs.Limits.{counts};
 ghost use Rattle.rules.specs.Numbers.{pointAt, triangleAt, outlineAt, natural as naturalOf};
 use crate::view::View;
 use rules::Edge;
+use rules::MAX_COUNT;
 use rules::OutlineEdge;
 use rules::Point;
 use rules::Triangle;
@@ -27,7 +28,7 @@ impl<'a> View<'a> {
             return false;
         }
         let (triangles, edges) = (numbers[0], numbers[1]);
-        if triangles < 1 || triangles > 65536 || edges < 0 || edges > 65536 {
+        if triangles < 1 || triangles > MAX_COUNT || edges < 0 || edges > MAX_COUNT {
             return false;
         }
         numbers.len() as i64 == 2 + 7 * (triangles + edges)

@@ -5,6 +5,7 @@ use lib.IntN.{ℤ, pos, _+ℤ_, _-ℤ_, _*ℤ_}
 use Rattle.exact.specs.Fractions.{whole, _+F_, _≤F_}
 use Rattle.rules.specs.declared.Triangle.{Triangle}
 use Rattle.rules.specs.declared.Corners.{Corners}
+use Rattle.rules.specs.Bounds.{upperIn, upDragIn}
 use Rattle.rules.specs.Triangles.{area2, proper, turned, norm, spentIn, dragIn, around}
 use Rattle.rules.specs.Parts.{Part, part, carriedTo}
 
@@ -16,7 +17,7 @@ abbrev pub Cross : Type 0
 Cross =
     (t : Triangle) (u s : Corners) → (turned t u .x *ℤ turned t s .y) -ℤ (turned t u .y *ℤ turned t s .x) ≡ area2 t *ℤ around u s
 
--- a sum of two squares is what is spent and dragged, less the exchange
+-- a sum of two squares is 2dk times what is spent and dragged less the exchange, d being twice the area
 abbrev pub Squares : Type 0
 Squares =
     (t : Triangle) (u s : Corners) → let k = pos (t .k) in
@@ -31,3 +32,8 @@ LocalLaw = (t : Triangle) → T (proper t) → (u s : Corners) → whole (around
 abbrev pub PartsAlike : Type 0
 PartsAlike =
     (p : Part) (t : Triangle) (u : Corners) → (turned (part p t) (carriedTo p u) ≡ turned t u) × (area2 (part p t) ≡ area2 t)
+
+-- rounded up, what is spent and what is dragged in a triangle are at least themselves: the upper number errs upwards, the lower one downwards
+abbrev pub RoundedUp : Type 0
+RoundedUp =
+    (t : Triangle) → T (proper t) → (u : Corners) → (spentIn t u ≤F whole (pos (upperIn t u))) × (dragIn t u ≤F whole (pos (upDragIn t u)))

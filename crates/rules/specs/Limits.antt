@@ -23,6 +23,7 @@ near b z = leb (natAbs z) b
 abbrev pub nearPoint : Point → Bool
 nearPoint p = near 32768 (p .x) && near 32768 (p .y)
 
+-- a triangle whose coordinates and conductivity are within the limits
 unfoldable pub modest : Triangle → Bool
 modest t = (nearPoint (t .a) && nearPoint (t .b)) && (nearPoint (t .c) && ltb (t .k) 4096)
 

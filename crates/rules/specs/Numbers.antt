@@ -1,6 +1,6 @@
 -- A plate as a row of numbers: how many triangles, how many outline edges; then seven numbers for each triangle, the corners'
 -- coordinates and k; then seven for each outline edge, 0 closed or 1 held, the ends' coordinates and the two temperatures. Assumes nothing.
-use mathlib.Core.Bool.{Bool, cond}
+use mathlib.Core.Bool.{cond}
 use mathlib.Core.List.{List, map}
 use Prim.Native.Nat.{ℕ, _+_, _*_}
 use lib.Dec.{eqb}
@@ -17,7 +17,7 @@ use Rattle.rules.specs.Plates.{Plate}
 abbrev pub numberAt : List ℤ → ℕ → ℤ
 numberAt zs i = getD zs i (pos 0)
 
--- 0 where a number is negative
+-- the number, or 0 where it is negative: so a triangle with a negative k is not proper
 abbrev pub natural : ℤ → ℕ
 natural (pos n) = n
 natural (negsuc n) = 0

@@ -1,12 +1,11 @@
 -- Plates, the points of a plate, and values at its points. Assumes nothing.
-use mathlib.Core.Bool.{Bool, _&&_, not, cond}
-use mathlib.Core.List.{List, [], _∷_, _++_}
+use mathlib.Core.Bool.{Bool, _&&_, not}
+use mathlib.Core.List.{List}
 use Prim.Native.Nat.{ℕ}
-use lib.Dec.{ltb}
 use lib.IntN.{ℤ, pos}
-use lib.ListN.{length, getD}
+use lib.ListN.{getD}
 use lib.Signed.{leZ}
-use Rattle.std.specs.shelf.Lists.{folded, leading}
+use Rattle.std.specs.shelf.Lists.{leading}
 use Rattle.rules.specs.declared.Point.{Point}
 use Rattle.rules.specs.declared.Triangle.{Triangle}
 use Rattle.rules.specs.declared.OutlineEdge.{OutlineEdge}
@@ -27,22 +26,11 @@ samePoint p q = same (p .x) (q .x) && same (p .y) (q .y)
 abbrev pub placeOf : Point → List Point → ℕ
 placeOf p ps = leading (λ q. not (samePoint p q)) ps
 
--- p behind the points ps, unless it is one of them
-abbrev pub noted : List Point → Point → List Point
-noted ps p = cond (ltb (placeOf p ps) (length ps)) ps (ps ++ p ∷ [])
-
-abbrev pub cornersNoted : List Point → Triangle → List Point
-cornersNoted ps t = noted (noted (noted ps (t .a)) (t .b)) (t .c)
-
--- the points of a plate, in the order in which its triangles first name them
-abbrev pub pointsOf : List Triangle → List Point
-pointsOf ts = folded cornersNoted [] ts
-
 -- a number at each point, drawn linearly over each triangle
 abbrev pub Values : Type 0
 Values = Point → ℤ
 
--- the numbers zs, one for each of the points ps
+-- the numbers zs, in the order of the points ps; nought where there is no number or no point
 abbrev pub valuesAt : List Point → List ℤ → Values
 valuesAt ps zs p = getD zs (placeOf p ps) (pos 0)
 

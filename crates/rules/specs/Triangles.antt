@@ -5,7 +5,6 @@ use lib.Dec.{ltb}
 use lib.IntN.{ℤ, pos, _+ℤ_, _-ℤ_, _*ℤ_, natAbs}
 use lib.Signed.{ltZ}
 use Rattle.exact.specs.Fractions.{Fraction, ratio}
-use Rattle.rules.specs.declared.Point.{Point}
 use Rattle.rules.specs.declared.Triangle.{Triangle}
 use Rattle.rules.specs.declared.Corners.{Corners}
 use Rattle.rules.specs.declared.Vector.{Vector}
@@ -18,7 +17,7 @@ area2 t = ((t .b .x -ℤ t .a .x) *ℤ (t .c .y -ℤ t .a .y)) -ℤ ((t .c .x -�
 abbrev pub proper : Triangle → Bool
 proper t = ltZ (pos 0) (area2 t) && ltb 0 (t .k)
 
--- each value times the edge opposite its corner, of which a, b, c are the corners' coordinates
+-- one coordinate of the turned gradient: each value times the edge opposite its corner; a, b, c are that coordinate of the corners
 unfoldable pub weighed : Corners → ℤ → ℤ → ℤ → ℤ
 weighed u a b c = (u .a *ℤ (c -ℤ b)) +ℤ ((u .b *ℤ (a -ℤ c)) +ℤ (u .c *ℤ (b -ℤ a)))
 

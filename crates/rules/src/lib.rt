@@ -1,16 +1,19 @@
 //! What the definitions speak of, and the limits.
 
-/// No coordinate is farther from 0.
-pub const FARTHEST: u64 = 32768;
+/// A plate has at most so many triangles, and at most so many outline edges.
+pub const MAX_COUNT: i64 = 65536;
 
-/// Each conductivity is below.
-pub const CONDUCTIVITIES: u64 = 4096;
+/// No coordinate is farther from 0.
+pub const MAX_COORDINATE: u64 = 32768;
 
 /// No value and no temperature is farther from 0.
-pub const HOTTEST: u64 = 1 << 20;
+pub const MAX_VALUE: u64 = 1 << 20;
 
-/// Each coordinate of a turned gradient is below, in size.
-pub const STEEPEST: u64 = 1 << 30;
+/// Each conductivity is below this.
+pub const CONDUCTIVITY_END: u64 = 4096;
+
+/// Each coordinate of a turned gradient is below this, in size.
+pub const GRADIENT_END: u64 = 1 << 30;
 
 /// A point of the plane, with whole coordinates.
 #[derive(Clone, Copy)]

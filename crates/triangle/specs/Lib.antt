@@ -1,3 +1,2 @@
-pub mod Reads
 pub mod Short
 pub mod Terms

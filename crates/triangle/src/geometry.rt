@@ -5,7 +5,7 @@ ghost use Prim.Native.Nat.{_<_, _≤_, _^_};
 ghost use lib.IntN.{natAbs, _-ℤ_, _*ℤ_};
 ghost use Rattle.rules.specs.Limits.{nearPoint, modest};
 ghost use Rattle.rules.specs.Triangles.{area2, proper};
-ghost use Rattle.triangle.specs.Reads.{Reads};
+ghost use Rattle.exact.specs.Given.{Given};
 use exact::product;
 use rules::Point;
 use rules::Triangle;
@@ -47,7 +47,7 @@ fn twice_area(t: &Triangle) -> i64
 /// Twice the area of a triangle, or `None` where it is not proper.
 pub fn proper_area(t: &Triangle) -> Option<u64>
     requires { ⌜ modest (now t) ≡ true ⌝ }
-    ensures { λ r. ⌜ Reads r (proper (now (t .entry))) (natAbs (area2 (now (t .entry)))) (λ n. (0 < n) × (n ≤ 2 ^ 33) × (0 < now (t .entry) .k)) ⌝ }
+    ensures { λ r. ⌜ Given r (proper (now (t .entry))) (natAbs (area2 (now (t .entry)))) (λ n. (0 < n) × (n ≤ 2 ^ 33) × (0 < now (t .entry) .k)) ⌝ }
 {
     let area = twice_area(t);
     if area > 0 && t.k > 0 {

@@ -5,12 +5,12 @@ ghost use Prim.Native.Nat.{_<_, _≤_, _^_};
 ghost use lib.IntN.{natAbs, _+ℤ_, _*ℤ_};
 ghost use Rattle.rules.specs.Limits.{modest, nearCorners, gentle};
 ghost use Rattle.rules.specs.Triangles.{turned, norm as normOf};
-ghost use Rattle.triangle.specs.Reads.{Reads};
+ghost use Rattle.exact.specs.Given.{Given};
 ghost use Rattle.triangle.specs.Short.{Short};
 use crate::geometry::difference;
 use exact::product;
 use rules::Corners;
-use rules::STEEPEST;
+use rules::GRADIENT_END;
 use rules::Triangle;
 use rules::Vector;
 
@@ -63,9 +63,9 @@ fn squared(v: &Vector) -> u64
 
 /// The square of a vector's length, or `None` where it is too steep.
 pub fn squared_length(v: &Vector) -> Option<u64>
-    ensures { λ r. ⌜ Reads r (gentle (now (v .entry))) (normOf (now (v .entry))) (λ n. n < 2 ^ 61) ⌝ }
+    ensures { λ r. ⌜ Given r (gentle (now (v .entry))) (normOf (now (v .entry))) (λ n. n < 2 ^ 61) ⌝ }
 {
-    if v.x.unsigned_abs() < STEEPEST && v.y.unsigned_abs() < STEEPEST {
+    if v.x.unsigned_abs() < GRADIENT_END && v.y.unsigned_abs() < GRADIENT_END {
         Some(squared(v))
     } else {
         None

@@ -2,6 +2,6 @@
 
 mod geometry;
 mod gradient;
+pub mod kinds;
 mod limits;
-pub mod quotients;
 pub mod terms;

@@ -1,10 +1,9 @@
 use mathlib.Core.Path.{_∙_}
 use borrow.Author.Needs.{needs}
 use Rattle.exact.specs.Lists.{every}
-use Rattle.rules.specs.Bounds.{allInReach, work, upDrag, upDragIn}
+use Rattle.rules.specs.Bounds.{allInReach, work, upDrag}
 use Rattle.rules.specs.Limits.{inReachAlong}
 use Rattle.rules.specs.Numbers.{trianglesOf, outlineOf}
-use Rattle.triangle.specs.Terms.{termOf}
 use Rattle.energy.proofs.Answered.{no-work, no-drag, both, less}
 use Rattle.energy.proofs.numbers.lower.Needs as need
 
@@ -16,7 +15,6 @@ returns-in-Break-work g c =
     ∙ no-work (every (inReachAlong s) (outlineOf zs)) (allInReach s (trianglesOf zs)) (work s (outlineOf zs)) (upDrag s (trianglesOf zs)) (c .in-Break-work .ensures tt)
 
 pub returns-in-Break-drag : need.returns-in-Break-drag
-unfolding termOf upDragIn
 returns-in-Break-drag g c =
     let zs = c .args .plate .now .numbers .now in
     let s = g .V·Values .value (c .args .s .now) in
@@ -25,7 +23,6 @@ returns-in-Break-drag g c =
     (c .in-Break-drag .was tt)
 
 pub returns : need.returns
-unfolding termOf upDragIn
 returns g c =
     let zs = c .args .plate .now .numbers .now in
     let s = g .V·Values .value (c .args .s .now) in

@@ -1,12 +1,10 @@
 use mathlib.Core.Path.{_∙_}
-use Rattle.rules.specs.Bounds.{allInReach, upper, upperIn}
+use Rattle.rules.specs.Bounds.{allInReach, upper}
 use Rattle.rules.specs.Numbers.{trianglesOf}
-use Rattle.triangle.specs.Terms.{termOf}
 use Rattle.energy.proofs.Answered.{joined}
 use Rattle.energy.proofs.numbers.upper.Needs as need
 
 pub returns : need.returns
-unfolding termOf upperIn
 returns g c =
     let ts = trianglesOf (c .args .plate .now .numbers .now) in
     let u = g .V·Values .value (c .args .u .now) in

@@ -13,7 +13,7 @@ use Rattle.rules.specs.Bounds.{allInReach}
 use Rattle.rules.specs.Limits.{inReach}
 use Rattle.rules.specs.Numbers.{triangleCount, triangleAt, trianglesOf}
 use Rattle.rules.specs.Plates.{Values, cornersOf}
-use Rattle.triangle.specs.declared.quotients.Kind.{Kind}
+use Rattle.triangle.specs.declared.kinds.Kind.{Kind}
 use Rattle.triangle.specs.Terms.{termOf}
 use Rattle.energy.proofs.Totals.{begun, ended, Turn, term-missing, sum-missing, one-more}
 use Rattle.energy.proofs.sums.total.Needs as need

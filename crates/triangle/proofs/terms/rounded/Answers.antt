@@ -4,7 +4,8 @@ use Rattle.std.proofs.shelf.Tests.{and-parts}
 use Rattle.exact.specs.Capped.{capped}
 use Rattle.rules.specs.Limits.{modest, nearCorners}
 use Rattle.rules.specs.Triangles.{norm}
-use Rattle.triangle.specs.Terms.{quotientOf, termOf}
+use Rattle.triangle.specs.Terms.{quotientOf}
+use Rattle.triangle.proofs.Quotients.{quotient-is}
 use Rattle.triangle.proofs.Reach.{beyond, improper, steep, reached}
 use Rattle.triangle.proofs.Within.{modest-parts}
 use Rattle.triangle.proofs.terms.rounded.Needs as need
@@ -27,10 +28,10 @@ quotient-requires c κs =
     record { k-above = area .2 .2; k-below = t .k; area-above = area .2 .0; area-below = area .2 .1; square-below = square .2 }
 
 pub returns : need.returns
-unfolding termOf
 returns c =
     let area = c .in-Continue-area .ensures tt in
     let square = c .in-Continue-square .ensures tt in
     rw (reached (c .args .t .now) (c .args .u .now) (c .turned-gradient .result) (c .turned-gradient .ensures) (c .if-not-are-within .ensures tt) (area .0) (square .0))
     (c .quotient .ensures
-    ∙ ap₂ (λ d n. capped (quotientOf (c .args .kind) (c .args .t .now .k) d n)) (area .1) (square .1 ∙ ap norm (c .turned-gradient .ensures)))
+    ∙ ap₂ (λ d n. capped (quotientOf (c .args .kind) (c .args .t .now .k) d n)) (area .1) (square .1 ∙ ap norm (c .turned-gradient .ensures))
+    ∙ ap capped (quotient-is (c .args .kind) (c .args .t .now) (c .args .u .now)))

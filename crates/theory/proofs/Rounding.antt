@@ -1,0 +1,44 @@
+-- Rounded up, a quotient is at least itself. Assumes nothing.
+use mathlib.Core.Path.{_≡_, sym, subst}
+use Prim.Native.Nat.{ℕ, _*_, _<_, _≤_}
+use native.Mathlib.Nat.{mul-le-mul-left, mul-pos, mul-one, mul-assoc}
+use native.Mathlib.Omega.{arith}
+use borrow.Author.Differences.{ints}
+use lib.Dec.{T, ltb, ltb→lt}
+use lib.IntN.{ℤ, pos, natAbs}
+use lib.Signed.{_≤ℤ_, ltZ}
+use Rattle.exact.specs.Fractions.{ratio, whole, _≤F_}
+use Rattle.exact.specs.Rounding.{up}
+use Rattle.exact.proofs.Order.{pos-≤ℤ}
+use Rattle.exact.proofs.Ring.{and-left, and-right}
+use Rattle.exact.proofs.Rounding.{up-reaches}
+use Rattle.rules.specs.declared.Triangle.{Triangle}
+use Rattle.rules.specs.Bounds.{upperIn, upDragIn}
+use Rattle.rules.specs.Laws.{RoundedUp}
+use Rattle.rules.specs.Triangles.{area2, proper, turned, norm}
+
+-- k times n / d, and k times the quotient rounded up
+rounded : (k n d : ℕ) → 0 < d → ratio (k * n) d ≤F whole (pos (k * up n d))
+rounded k n d above =
+    let more : k * n ≤ k * (up n d * d) = mul-le-mul-left k (up-reaches n d above) in
+    let same = mul-assoc k (up n d) d in
+    let one = mul-one (k * n) in
+    pos-≤ℤ (omega arith)
+
+once : (n d : ℕ) → 0 < d → ratio n d ≤F whole (pos (up n d))
+once n d above =
+    let more = up-reaches n d above in
+    let one = mul-one n in
+    pos-≤ℤ (omega arith)
+
+area-above : (d : ℤ) → T (ltZ (pos 0) d) → 0 < 2 * natAbs d
+area-above d h = omega (arith, ints)
+
+pub rounded-up : RoundedUp
+unfolding upperIn upDragIn
+rounded-up t ok u =
+    let n = norm (turned t u) in
+    let d = 2 * natAbs (area2 t) in
+    let area : 0 < d = area-above (area2 t) (and-left (ltZ (pos 0) (area2 t)) (ltb 0 (t .k)) ok) in
+    let k : 0 < t .k = ltb→lt 0 (t .k) (and-right (ltZ (pos 0) (area2 t)) (ltb 0 (t .k)) ok) in
+    (rounded (t .k) n d area, once n (d * t .k) (mul-pos area k))
