@@ -1,9 +1,9 @@
 //! The work of a stream along the outline.
 ghost use mathlib.Core.Bool.{true, _&&_};
 ghost use mathlib.Core.Path.{_≡_};
-ghost use Prim.Native.Nat.{_*_, _≤_, _^_};
+ghost use Prim.Native.Nat.{_≤_, _^_};
 ghost use lib.IntN.{natAbs, _+ℤ_, _-ℤ_, _*ℤ_};
-ghost use Rattle.exact.specs.Lists.{every, sumZ};
+ghost use Rattle.exact.specs.Lists.{every};
 ghost use Rattle.rules.specs.Bounds.{workAlong, work as workOf};
 ghost use Rattle.rules.specs.Limits.{inReachAlong};
 ghost use Rattle.energy.specs.Ends.{nearEnds};

@@ -46,7 +46,7 @@ fn place_of(p: &Point, points: &[Point]) -> usize
     points.len()
 }
 
-/// Lent numbers, one for each of the points in their order; nought anywhere else.
+/// Lent numbers in the order of the points; nought where there is none.
 #[derive(Clone, Copy)]
 pub struct Listed<'p, 'n> {
     pub points: &'p [Point],

@@ -8,8 +8,8 @@ use borrow.Author.Differences.{ints}
 use lib.IntN.{ℤ, pos, _+ℤ_, _*ℤ_}
 use lib.Signed.{_≤ℤ_}
 use Rattle.exact.specs.Fractions.{Fraction, ratio, whole, _+F_, _-F_, negF, scaled, _≤F_, _≈F_}
-use Rattle.exact.proofs.Ring.{Expr, var, con, _⊕_, _⊗_, _⊝_, ⊖_, solve}
-use Rattle.exact.proofs.Certificates.{Fact, _≼_, hyp, lit, Cert, _⊞_, _⊠_, natural, prove≤}
+use Rattle.exact.proofs.Ring.{Expr, var, con, _⊕_, _⊗_, ⊖_, solve}
+use Rattle.exact.proofs.Certificates.{Fact, _≼_, hyp, _⊞_, _⊠_, natural, prove≤}
 use Rattle.exact.proofs.Order.{≤ℤ-of-≡, *ℤ-cancel-≤ℤ, pos-≤ℤ}
 
 -- ---- four fractions as expressions, and the facts that their denominators are not negative

@@ -1,9 +1,9 @@
 -- The laws of a commutative ring that the library's integers lack. Assumes nothing.
-use mathlib.Core.Path.{_≡_, sym, ap, _∙_}
+use mathlib.Core.Path.{_≡_, ap}
 use Prim.Native.Nat.{ℕ, _+_, _*_}
 use native.Mathlib.Omega.{arith}
 use borrow.Author.Differences.{up, down, ints, sum-is, product-is, neg-is, same-in}
-use lib.IntN.{ℤ, pos, _+ℤ_, _*ℤ_, negℤ, *ℤ-comm, +ℤ-assoc, +ℤ-comm}
+use lib.IntN.{ℤ, pos, _+ℤ_, _*ℤ_, negℤ, *ℤ-comm}
 
 pub *ℤ-distrib : (a b c : ℤ) → a *ℤ (b +ℤ c) ≡ (a *ℤ b) +ℤ (a *ℤ c)
 *ℤ-distrib a b c =

@@ -1,5 +1,5 @@
 -- The order of the integers: chains, sums, products, and a factor that cancels. Assumes nothing.
-use mathlib.Core.Path.{_≡_, sym, subst}
+use mathlib.Core.Path.{_≡_}
 use mathlib.Core.List.{[], _∷_}
 use Prim.Native.Nat.{ℕ, _<_, _≤_}
 use native.Mathlib.Omega.{arith}
@@ -8,7 +8,7 @@ use lib.IntN.{ℤ, pos, _+ℤ_, _*ℤ_, negℤ}
 use lib.Signed.{_≤ℤ_, _<ℤ_}
 use Rattle.std.proofs.shelf.Signed.{by-ltZ}
 use Rattle.exact.proofs.Ring.{var, con, _⊕_, _⊗_}
-use Rattle.exact.proofs.Certificates.{_≼_, hyp, lit, _⊞_, _⊠_, prove≤}
+use Rattle.exact.proofs.Certificates.{_≼_, hyp, _⊞_, _⊠_, prove≤}
 
 pub ≤ℤ-trans : {a b c : ℤ} → a ≤ℤ b → b ≤ℤ c → a ≤ℤ c
 ≤ℤ-trans {a} {b} {c} h k = omega (arith, ints)

@@ -1,5 +1,5 @@
 -- A triangle cut at the middles of its edges, all coordinates and values doubled so that they stay whole. Assumes nothing.
-use lib.IntN.{ℤ, _+ℤ_}
+use lib.IntN.{_+ℤ_}
 use Rattle.rules.specs.declared.Point.{Point}
 use Rattle.rules.specs.declared.Triangle.{Triangle}
 use Rattle.rules.specs.declared.Corners.{Corners}

@@ -30,7 +30,7 @@ placeOf p ps = leading (λ q. not (samePoint p q)) ps
 abbrev pub Values : Type 0
 Values = Point → ℤ
 
--- the numbers zs, in the order of the points ps; nought where there is no number or no point
+-- the numbers zs in the order of the points ps: at p the number at its place, and nought where there is none
 abbrev pub valuesAt : List Point → List ℤ → Values
 valuesAt ps zs p = getD zs (placeOf p ps) (pos 0)
 

@@ -1,5 +1,4 @@
 -- Rounded up, a quotient is at least itself. Assumes nothing.
-use mathlib.Core.Path.{_≡_, sym, subst}
 use Prim.Native.Nat.{ℕ, _*_, _<_, _≤_}
 use native.Mathlib.Nat.{mul-le-mul-left, mul-pos, mul-one, mul-assoc}
 use native.Mathlib.Omega.{arith}
@@ -12,10 +11,9 @@ use Rattle.exact.specs.Rounding.{up}
 use Rattle.exact.proofs.Order.{pos-≤ℤ}
 use Rattle.exact.proofs.Ring.{and-left, and-right}
 use Rattle.exact.proofs.Rounding.{up-reaches}
-use Rattle.rules.specs.declared.Triangle.{Triangle}
 use Rattle.rules.specs.Bounds.{upperIn, upDragIn}
 use Rattle.rules.specs.Laws.{RoundedUp}
-use Rattle.rules.specs.Triangles.{area2, proper, turned, norm}
+use Rattle.rules.specs.Triangles.{area2, turned, norm}
 
 -- k times n / d, and k times the quotient rounded up
 rounded : (k n d : ℕ) → 0 < d → ratio (k * n) d ≤F whole (pos (k * up n d))

@@ -3,7 +3,7 @@ use mathlib.Core.Path.{_≡_, sym, subst}
 use mathlib.Core.Bool.{true, _&&_}
 use Prim.Native.Nat.{ℕ, _-_, _≤_, _<_, _^_}
 use native.Mathlib.Nat.{le-pred-of-lt}
-use lib.Dec.{T, leb, ltb, leb→le, ltb→lt}
+use lib.Dec.{T, ltb, leb→le, ltb→lt}
 use lib.IntN.{ℤ, natAbs}
 use Rattle.std.proofs.shelf.Tests.{and-parts}
 use Rattle.rules.specs.declared.Corners.{Corners}

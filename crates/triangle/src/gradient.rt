@@ -1,8 +1,8 @@
 //! The turned gradient of values over a triangle, and the square of its length.
 ghost use mathlib.Core.Bool.{true};
 ghost use mathlib.Core.Path.{_≡_};
-ghost use Prim.Native.Nat.{_<_, _≤_, _^_};
-ghost use lib.IntN.{natAbs, _+ℤ_, _*ℤ_};
+ghost use Prim.Native.Nat.{_<_, _^_};
+ghost use lib.IntN.{_+ℤ_, _*ℤ_};
 ghost use Rattle.rules.specs.Limits.{modest, nearCorners, gentle};
 ghost use Rattle.rules.specs.Triangles.{turned, norm as normOf};
 ghost use Rattle.exact.specs.Given.{Given};

@@ -1,7 +1,7 @@
-use mathlib.Core.Path.{_≡_, ap₂, subst, sym, _∙_}
+use mathlib.Core.Path.{ap₂, subst, sym, _∙_}
 use Prim.Native.Nat.{_^_, _≤_}
 use borrow.Author.Needs.{needs}
-use lib.IntN.{ℤ, natAbs, _-ℤ_, _*ℤ_}
+use lib.IntN.{natAbs, _-ℤ_, _*ℤ_}
 use mir.Syntax.{w64}
 use Rattle.std.proofs.shelf.Signed.{toZ-ofZ}
 use Rattle.rules.specs.Triangles.{area2}

@@ -1,5 +1,4 @@
 use mathlib.Core.Path.{refl, ap, ap₂, sym, _∙_}
-use borrow.Author.Needs.{needs}
 use Rattle.std.proofs.shelf.Tests.{and-parts}
 use Rattle.exact.specs.Capped.{capped}
 use Rattle.rules.specs.Limits.{modest, nearCorners}
