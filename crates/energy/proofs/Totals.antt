@@ -15,17 +15,8 @@ use Rattle.std.proofs.shelf.Sums.{sumBy-cons}
 use Rattle.std.proofs.shelf.Tests.{lt-ltb}
 use Rattle.exact.specs.Capped.{capped}
 use Rattle.exact.specs.Lists.{every}
-use Rattle.exact.proofs.Capped.{capped-some, capped-none, capped-past}
-use Rattle.exact.proofs.Lists.{from, from-start, from-more, from-none, every-fails, every-goes-on}
-
--- a term that is there where the test passes and it is below the cap
-missing : (b : Bool) (n : ℕ) → cond b (capped n) None ≡ None → (b ≡ false) ⊎ (2 ^ 62 ≤ n)
-missing true n e = inr (capped-none n e)
-missing false n e = inl refl
-
-there : (b : Bool) (n m : ℕ) → cond b (capped n) None ≡ Some m → (b ≡ true) × (m ≡ n)
-there true n m e = (refl, capped-some n m e .0)
-there false n m e = let z : _≡_ {A = ℕ} 0 1 = cc in absurd (omega arith)
+use Rattle.exact.proofs.Capped.{capped-some, capped-none, capped-past, where-none, where-some}
+use Rattle.exact.proofs.Lists.{from, from-start, from-read, from-none, every-fails, every-goes-on}
 
 neither : (b : Bool) → _≡_ {A = Option ℕ} None (cond b None None)
 neither true = refl
@@ -48,7 +39,7 @@ ended p f b all sum list n i last test total small =
     let kept : capped all ≡ Some sum = ap capped is ∙ ap (λ t. cond t (Some sum) None) (lt-ltb sum (2 ^ 62) small) in
     sym (ap (λ t. cond t (capped all) None) passes ∙ kept)
 
--- a turn: of the elements that f lists, n of them, those from index i on are left; those before came to sum
+-- a turn: of the n elements that `list` lists, those from index i on are left; those before came to sum
 pub record Turn {A : Type 0} (p : A → Bool) (f : A → ℕ) (b : Bool) (all sum : ℕ) (list : ℕ → A) (n i : ℕ) (t : A) : Type 0 where
   pub test : every p (from list n i) ≡ b
   pub total : sum + sumBy f (from list n i) ≡ all
@@ -57,7 +48,7 @@ pub record Turn {A : Type 0} (p : A → Bool) (f : A → ℕ) (b : Bool) (all su
 
 module _ {A : Type 0} {p : A → Bool} {f : A → ℕ} {b : Bool} {all sum : ℕ} {list : ℕ → A} {n i : ℕ} {t : A} (turn : Turn p f b all sum list n i t) where
   first : from list n i ≡ t ∷ from list n (i + 1)
-  first = from-more list n i (turn .within) ∙ ap (λ x. x ∷ from list n (i + 1)) (sym (turn .read))
+  first = from-read list n i t (turn .within) (turn .read)
 
   split : sumBy f (from list n i) ≡ f t + sumBy f (from list n (i + 1))
   split = ap (sumBy f) first ∙ sumBy-cons f t (from list n (i + 1))
@@ -68,7 +59,7 @@ module _ {A : Type 0} {p : A → Bool} {f : A → ℕ} {b : Bool} {all sum : ℕ
       neither b ∙ sym (ap (λ o. cond b o None) (capped-past all large))
 
   pub term-missing : (r : Option ℕ) → r ≡ cond (p t) (capped (f t)) None → r ≡ None → None ≡ cond b (capped all) None
-  term-missing r is none = by (missing (p t) (f t) (sym is ∙ none))
+  term-missing r is none = by (where-none (p t) (f t) (sym is ∙ none))
     where
       by : (p t ≡ false) ⊎ (2 ^ 62 ≤ f t) → None ≡ cond b (capped all) None
       by (inl e) = sym (ap (λ c. cond c (capped all) None) (every-fails p b (from list n i) (from list n (i + 1)) t (turn .test) first e))
@@ -77,11 +68,11 @@ module _ {A : Type 0} {p : A → Bool} {f : A → ℕ} {b : Bool} {all sum : ℕ
   -- the term m is there
   module _ (r : Option ℕ) (m : ℕ) (is : r ≡ cond (p t) (capped (f t)) None) (some : r ≡ Some m) where
     pub sum-missing : (s : Option ℕ) → s ≡ capped (sum + m) → s ≡ None → None ≡ cond b (capped all) None
-    sum-missing s is-sum none = past (omega (arith, there (p t) (f t) m (sym is ∙ some) .1, capped-none (sum + m) (sym is-sum ∙ none)))
+    sum-missing s is-sum none = past (omega (arith, where-some (p t) (f t) m (sym is ∙ some) .1, capped-none (sum + m) (sym is-sum ∙ none)))
 
     pub one-more : (s : Option ℕ) (more : ℕ) → s ≡ capped (sum + m) → s ≡ Some more →
         (every p (from list n (i + 1)) ≡ b) × (more + sumBy f (from list n (i + 1)) ≡ all) × (more < 2 ^ 62)
     one-more s more is-sum some-sum =
-        let known = there (p t) (f t) m (sym is ∙ some) in
+        let known = where-some (p t) (f t) m (sym is ∙ some) in
         let kept = capped-some (sum + m) more (sym is-sum ∙ some-sum) in
         (every-goes-on p b (from list n i) (from list n (i + 1)) t (turn .test) first (known .0), omega (arith, split, turn .total, kept .0, known .1), omega (arith, kept .0, kept .1))

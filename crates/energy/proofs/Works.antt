@@ -10,7 +10,7 @@ use lib.IntN.{ℤ, pos, natAbs, _+ℤ_, _-ℤ_, _*ℤ_}
 use Rattle.std.specs.declared.option.Option.{Option}
 use Rattle.std.specs.declared.option.Option.the-variants.{Some}
 use Rattle.exact.specs.Lists.{every, sumZ}
-use Rattle.exact.proofs.Lists.{from, from-more, every-fails, every-goes-on}
+use Rattle.exact.proofs.Lists.{from, from-read, every-fails, every-goes-on}
 use Rattle.rules.specs.declared.Edge.{Edge}
 use Rattle.rules.specs.declared.OutlineEdge.{OutlineEdge}
 use Rattle.rules.specs.declared.OutlineEdge.the-variants.{Closed, Held}
@@ -36,7 +36,7 @@ held s b e g h g′ h′ p q is eg eh ep eq r reads =
     subst₂ (λ t z. Given r t z small) (ap₂ _&&_ (ap₂ both eg eh) (ap₂ both ep eq) ∙ sym (ap (inReachAlong s) is))
     (ap₂ _*ℤ_ (ap₂ _+ℤ_ eg eh) (ap₂ _-ℤ_ eq ep) ∙ sym (ap (workAlong s) is)) reads
 
--- a turn: of the edges that list lists, n of them, those from index i on are left; those before came to sum
+-- a turn: of the n edges that `list` lists, those from index i on are left; those before came to sum
 pub record Turn (s : Values) (test : Bool) (all sum : ℤ) (list : ℕ → OutlineEdge) (n i : ℕ) (b : OutlineEdge) : Type 0 where
   pub tested : every (inReachAlong s) (from list n i) ≡ test
   pub total : sum +ℤ sumZ (workAlong s) (from list n i) ≡ all
@@ -52,7 +52,7 @@ larger a b i h k = omega (arith, ints)
 
 module _ {s : Values} {test : Bool} {all sum : ℤ} {list : ℕ → OutlineEdge} {n i : ℕ} {b : OutlineEdge} (turn : Turn s test all sum list n i b) where
   first : from list n i ≡ b ∷ from list n (i + 1)
-  first = from-more list n i (turn .within) ∙ ap (λ x. x ∷ from list n (i + 1)) (sym (turn .read))
+  first = from-read list n i b (turn .within) (turn .read)
 
   pub out-of-reach : inReachAlong s b ≡ false → test ≡ false
   out-of-reach e = every-fails (inReachAlong s) test (from list n i) (from list n (i + 1)) b (turn .tested) first e

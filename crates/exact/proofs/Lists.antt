@@ -1,5 +1,5 @@
 -- Loops over a list that look at its elements one by one: the elements from an index on, and a test that all of them pass. Assumes nothing.
-use mathlib.Core.Path.{_≡_, ap}
+use mathlib.Core.Path.{_≡_, sym, ap, _∙_}
 use mathlib.Core.Bool.{Bool, true, false}
 use mathlib.Core.List.{List, [], _∷_, map}
 use Prim.Native.Nat.{ℕ, suc, _+_, _-_, _<_, _≤_}
@@ -15,10 +15,14 @@ from f n i = map f (counting i (n - i))
 pub from-start : {A : Type 0} (f : ℕ → A) (n : ℕ) → from f n 0 ≡ map f (counting 0 n)
 from-start f n = ap (λ m. map f (counting 0 m)) (sub-zero n)
 
-pub from-more : {A : Type 0} (f : ℕ → A) (n i : ℕ) → i < n → from f n i ≡ f i ∷ from f n (i + 1)
+from-more : {A : Type 0} (f : ℕ → A) (n i : ℕ) → i < n → from f n i ≡ f i ∷ from f n (i + 1)
 from-more f n i h =
     let more : n - i ≡ suc (n - (i + 1)) = omega arith in
     ap (λ m. map f (counting i m)) more
+
+-- the same, where x was read at index i
+pub from-read : {A : Type 0} (f : ℕ → A) (n i : ℕ) (x : A) → i < n → x ≡ f i → from f n i ≡ x ∷ from f n (i + 1)
+from-read f n i x h read = from-more f n i h ∙ ap (λ y. y ∷ from f n (i + 1)) (sym read)
 
 pub from-none : {A : Type 0} (f : ℕ → A) (n i : ℕ) → n ≤ i → from f n i ≡ []
 from-none f n i h =

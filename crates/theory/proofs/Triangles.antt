@@ -107,7 +107,7 @@ split atB v = record { a = v .a ⊕ v .b; b = v .b ⊕ v .b; c = v .b ⊕ v .c }
 split atC v = record { a = v .a ⊕ v .c; b = v .b ⊕ v .c; c = v .c ⊕ v .c }
 split between v = record { a = v .a ⊕ v .b; b = v .b ⊕ v .c; c = v .a ⊕ v .c }
 
--- the test that a part with the corners P has the whole's gradient, over one coordinate, and its area
+-- a part with the corners P has the whole's gradient, in both coordinates, and its area, where the three tests pass
 alike : (ρ : List ℤ) (P : Three → Three) → T (same ρ (Weighed (P U) (P X)) (Weighed U X)) → T (same ρ (Weighed (P U) (P Y)) (Weighed U Y)) → T (same ρ (Area (P X) (P Y)) (Area X Y)) →
     (value ρ (Weighed (P U) (P X)) ≡ value ρ (Weighed U X)) × (value ρ (Weighed (P U) (P Y)) ≡ value ρ (Weighed U Y)) × (value ρ (Area (P X) (P Y)) ≡ value ρ (Area X Y))
 alike ρ P x y area =

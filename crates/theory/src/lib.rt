@@ -1,4 +1,4 @@
-//! The theorems about plates, each named in the contract of a function, so that a check asks for its proof.
+//! The theorems, each named in the contract of a function, so that a check asks for its proof.
 ghost use Rattle.rules.specs.Laws.{Cross, Squares, LocalLaw, PartsAlike, RoundedUp};
 
 /// What a field spends and a stream drags in one triangle add up to at least their exchange along its edges.
