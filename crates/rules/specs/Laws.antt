@@ -1,11 +1,17 @@
--- What is promised of one triangle. Each is a type; a proof of it is the theorem. Assumes nothing.
+-- What is promised of one triangle, and of values in a row. Each is a type; a proof of it is the theorem. Assumes nothing.
 use mathlib.Core.Path.{_≡_}
+use mathlib.Core.Bool.{false}
+use mathlib.Core.List.{List}
+use Prim.Native.Nat.{ℕ, _<_}
 use lib.Dec.{T}
 use lib.IntN.{ℤ, pos, _+ℤ_, _-ℤ_, _*ℤ_}
+use lib.ListN.{length, getD}
 use Rattle.exact.specs.Fractions.{whole, _+F_, _≤F_}
+use Rattle.rules.specs.declared.Point.{Point}
 use Rattle.rules.specs.declared.Triangle.{Triangle}
 use Rattle.rules.specs.declared.Corners.{Corners}
 use Rattle.rules.specs.Bounds.{upperIn, upDragIn}
+use Rattle.rules.specs.Plates.{samePoint, valuesAt}
 use Rattle.rules.specs.Triangles.{area2, proper, turned, norm, spentIn, dragIn, around}
 use Rattle.rules.specs.Parts.{Part, part, carriedTo}
 
@@ -37,3 +43,9 @@ PartsAlike =
 abbrev pub RoundedUp : Type 0
 RoundedUp =
     (t : Triangle) → T (proper t) → (u : Corners) → (spentIn t u ≤F whole (pos (upperIn t u))) × (dragIn t u ≤F whole (pos (upDragIn t u)))
+
+-- at a listed point that is no earlier one, the value is the number at its place
+abbrev pub ValuesListed : Type 0
+ValuesListed =
+    (ps : List Point) (zs : List ℤ) (i : ℕ) (d : Point) → i < length ps → ((j : ℕ) → j < i → samePoint (getD ps i d) (getD ps j d) ≡ false) →
+    valuesAt ps zs (getD ps i d) ≡ getD zs i (pos 0)
