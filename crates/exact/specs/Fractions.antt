@@ -1,5 +1,6 @@
 -- Fractions, as a numerator and a denominator, never reduced. They are meant for denominators above 0, which the type does not
 -- say: the laws ask for it where they need it. Assumes nothing.
+use mathlib.Core.List.{List, [], _∷_}
 use Prim.Native.Nat.{ℕ, _*_}
 use lib.IntN.{ℤ, pos, negℤ, _+ℤ_, _*ℤ_}
 use lib.Signed.{_≤ℤ_}
@@ -27,6 +28,11 @@ p -F q = p +F negF q
 -- a whole number times a fraction
 abbrev pub scaled : ℤ → Fraction → Fraction
 scaled z p = record { num = z *ℤ p .num; den = p .den }
+
+-- a sum over a list
+abbrev pub sumF : {A : Type 0} → (A → Fraction) → List A → Fraction
+sumF f [] = whole (pos 0)
+sumF f (x ∷ xs) = f x +F sumF f xs
 
 infix 50 _≤F_ _≈F_
 abbrev pub _≤F_ : Fraction → Fraction → Type 0

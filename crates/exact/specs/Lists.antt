@@ -1,6 +1,6 @@
--- Over a list: a sum of integers, how many elements pass a test, and whether all do. Assumes nothing.
+-- Over a list: a sum of integers, how many elements pass a test, and whether all or some do. Assumes nothing.
 use Prim.Native.Nat.{ℕ, suc}
-use mathlib.Core.Bool.{Bool, true, cond, _&&_}
+use mathlib.Core.Bool.{Bool, true, false, cond, _&&_, _||_}
 use mathlib.Core.List.{List, [], _∷_}
 use lib.IntN.{ℤ, pos, _+ℤ_}
 
@@ -15,3 +15,7 @@ count p (x ∷ xs) = cond (p x) (suc (count p xs)) (count p xs)
 abbrev pub every : {A : Type 0} → (A → Bool) → List A → Bool
 every p [] = true
 every p (x ∷ xs) = p x && every p xs
+
+abbrev pub some : {A : Type 0} → (A → Bool) → List A → Bool
+some p [] = false
+some p (x ∷ xs) = p x || some p xs

@@ -4,4 +4,9 @@ pub mod Plates
 pub mod Numbers
 pub mod Limits
 pub mod Bounds
+pub mod Edges
+pub mod Lawful
+pub mod Finer
+pub mod Energy
 pub mod Laws
+pub mod Promises

@@ -22,6 +22,11 @@ same y z = leZ y z && leZ z y
 abbrev pub samePoint : Point → Point → Bool
 samePoint p q = same (p .x) (q .x) && same (p .y) (q .y)
 
+-- a number at a point
+pub record PointValue : Type 0 where
+  pub at : Point
+  pub value : ℤ
+
 -- how many points come before the first that is p: all of them, where none is
 abbrev pub placeOf : Point → List Point → ℕ
 placeOf p ps = leading (λ q. not (samePoint p q)) ps

@@ -1,0 +1,91 @@
+-- What is promised of every lawful plate. Each promise is a type; a proof of it is the theorem. Assumes nothing.
+use mathlib.Core.Path.{_≡_}
+use mathlib.Core.Bool.{true}
+use mathlib.Core.List.{List}
+use Prim.Native.Nat.{ℕ, _*_, _^_, _<_}
+use lib.IntN.{ℤ, pos, _*ℤ_}
+use lib.Signed.{_≤ℤ_, _<ℤ_}
+use Rattle.exact.specs.Fractions.{Fraction, whole, scaled, _≤F_, _≈F_}
+use Rattle.rules.specs.declared.Point.{Point}
+use Rattle.rules.specs.declared.Triangle.{Triangle}
+use Rattle.rules.specs.Bounds.{upper, upDrag, work, lower}
+use Rattle.rules.specs.Edges.{Corner, corner, edge, direction, across}
+use Rattle.rules.specs.Energy.{isField, isStream, spent, says}
+use Rattle.rules.specs.Finer.{finer, finest, Carried}
+use Rattle.rules.specs.Lawful.{lawful, parted}
+use Rattle.rules.specs.Plates.{Plate, Values}
+use Rattle.rules.specs.Triangles.{proper}
+
+-- four to the n, the scale at which a plate n times finer spends and says
+abbrev pub scale : ℕ → ℤ
+scale n = pos (4 ^ n)
+
+-- NO FIELD SPENDS LESS THAN ANY STREAM SAYS
+abbrev pub Below : Type 0
+Below = (m : Plate) → lawful m ≡ true → (u s : Values) → isField u m ≡ true → isStream s m ≡ true → says s m ≤F spent u (m .triangles)
+
+-- a finer plate is lawful
+abbrev pub FinerLawful : Type 0
+FinerLawful = (m : Plate) → lawful m ≡ true → lawful (finer m) ≡ true
+
+-- whatever stands at the points of a lawful plate can be carried to the finer one
+abbrev pub CarriedThere : Type 0
+CarriedThere = (m : Plate) → lawful m ≡ true → (u : Values) → (v : Values) × Carried u v m
+
+-- a field carried is a field, and spends four times as much
+abbrev pub FieldsCarried : Type 0
+FieldsCarried =
+    (m : Plate) → lawful m ≡ true → (u v : Values) → Carried u v m → isField u m ≡ true →
+    (isField v (finer m) ≡ true) × (spent v (finer m .triangles) ≈F scaled (pos 4) (spent u (m .triangles)))
+
+-- a stream carried is a stream, and says four times as much
+abbrev pub StreamsCarried : Type 0
+StreamsCarried =
+    (m : Plate) → lawful m ≡ true → (s r : Values) → Carried s r m → isStream s m ≡ true →
+    (isStream r (finer m) ≡ true) × (says r (finer m) ≈F scaled (pos 4) (says s m))
+
+-- HOWEVER FINE the plate is made, and whatever field is taken there, it spends at least what a stream on the coarse plate says, to scale
+abbrev pub HoweverFine : Type 0
+HoweverFine =
+    (m : Plate) → lawful m ≡ true → (s : Values) → isStream s m ≡ true → (n : ℕ) (u : Values) → isField u (finest n m) ≡ true →
+    scaled (scale n) (says s m) ≤F spent u (finest n m .triangles)
+
+-- the printed numbers are on the safe side: the upper one is never below what the field spends, the lower one never above what the stream says
+abbrev pub Printed : Type 0
+Printed =
+    (m : Plate) → lawful m ≡ true → (u s : Values) →
+    (spent u (m .triangles) ≤F whole (pos (upper u (m .triangles)))) × (whole (lower s m) ≤F says s m)
+
+-- BETWEEN ANY TWO FINENESSES the lower number of the one is at most the upper number of the other, to scale
+abbrev pub Between : Type 0
+Between =
+    (m : Plate) → lawful m ≡ true → (i j : ℕ) (u s : Values) → isField u (finest i m) ≡ true → isStream s (finest j m) ≡ true →
+    (scale i *ℤ lower s (finest j m)) ≤ℤ (scale j *ℤ pos (upper u (finest i m .triangles)))
+
+-- of carried values, all that is printed is exactly four times as large
+abbrev pub PrintedCarried : Type 0
+PrintedCarried =
+    (m : Plate) → lawful m ≡ true → (u v : Values) → Carried u v m →
+    (upper v (finer m .triangles) ≡ 4 * upper u (m .triangles)) × (upDrag v (finer m .triangles) ≡ 4 * upDrag u (m .triangles)) ×
+    (work v (finer m .outline) ≡ pos 4 *ℤ work u (m .outline)) × (lower v (finer m) ≡ pos 4 *ℤ lower u m)
+
+-- low and high bracket the heat that goes through the plate m: at every fineness each field spends at least low, and each stream says at
+-- most high, to scale
+pub record Brackets (m : Plate) (low high : ℤ) : Type 0 where
+  pub fields : (n : ℕ) (u : Values) → isField u (finest n m) ≡ true → whole (scale n *ℤ low) ≤F spent u (finest n m .triangles)
+  pub streams : (n : ℕ) (s : Values) → isStream s (finest n m) ≡ true → says s (finest n m) ≤F whole (scale n *ℤ high)
+
+-- THE PRINTED NUMBERS of any field and any stream BRACKET
+abbrev pub Bracketed : Type 0
+Bracketed =
+    (m : Plate) → lawful m ≡ true → (u s : Values) → isField u m ≡ true → isStream s m ≡ true → Brackets m (lower s m) (pos (upper u (m .triangles)))
+
+-- ---- what it means to be parted
+-- z lies strictly inside t, coordinates of z being N times as fine: to the left of each edge
+abbrev pub Strictly : ℕ → Triangle → Point → Type 0
+Strictly N t z = (i : Corner) → let d = direction (edge t i) in (pos N *ℤ across d (corner t i)) <ℤ across d z
+
+-- two parted triangles have no inner point in common, at any scale
+abbrev pub PartedMeans : Type 0
+PartedMeans =
+    (s t : Triangle) → proper s ≡ true → proper t ≡ true → parted s t ≡ true → (N : ℕ) → 0 < N → (z : Point) → Strictly N s z → Strictly N t z → ⊥
