@@ -4,6 +4,7 @@ pub mod Fractions
 pub mod Integers
 pub mod Lists
 pub mod Machine
+pub mod Members
 pub mod Order
 pub mod Products
 pub mod Ring

@@ -5,7 +5,7 @@ use Prim.Native.Nat.{ℕ, _+_}
 use lib.Dec.{eqb}
 use lib.IntN.{ℤ, pos}
 use lib.Signed.{leZ}
-use Rattle.exact.specs.Lists.{count, every, some}
+use Rattle.exact.specs.Lists.{count, every, any}
 use Rattle.rules.specs.declared.Point.{Point}
 use Rattle.rules.specs.declared.Edge.{Edge}
 use Rattle.rules.specs.declared.Triangle.{Triangle}
@@ -67,7 +67,7 @@ directions s t = record { x = pos 1; y = pos 0 } ∷ record { x = pos 0; y = pos
 
 -- no inner point in common: one of those directions parts the two
 unfoldable pub parted : Triangle → Triangle → Bool
-parted s t = some (oneSide s t) (directions s t)
+parted s t = any (oneSide s t) (directions s t)
 
 unfoldable pub apart : List Triangle → Bool
 apart [] = true

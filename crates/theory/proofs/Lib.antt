@@ -1,3 +1,6 @@
+pub mod Facts
 pub mod Listed
+pub mod Plane
 pub mod Rounding
+pub mod Sameness
 pub mod Triangles
