@@ -45,7 +45,7 @@ abbrev pub sumAt : Values → Triangle → Corner → Corner → PointValue
 sumAt u t i j = record { at = middle (corner t i) (corner t j); value = u (corner t i) +ℤ u (corner t j) }
 
 abbrev pub sumsIn : Values → Triangle → List PointValue
-sumsIn u t = sumAt u t A A ∷ sumAt u t B B ∷ sumAt u t C C ∷ sumAt u t A B ∷ sumAt u t B C ∷ sumAt u t A C ∷ []
+sumsIn u t = sumAt u t A A ∷ sumAt u t B B ∷ sumAt u t C C ∷ sumAt u t A B ∷ sumAt u t B C ∷ sumAt u t C A ∷ []
 
 -- the value of the first that is at q, and nought where none is
 abbrev pub firstAt : List PointValue → Point → ℤ

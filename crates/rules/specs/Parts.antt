@@ -19,14 +19,14 @@ pub data Part : Type 0 where
   between : Part
 
 abbrev pub part : Part → Triangle → Triangle
-part atA t = record { a = twice (t .a); b = middle (t .a) (t .b); c = middle (t .a) (t .c); k = t .k }
+part atA t = record { a = twice (t .a); b = middle (t .a) (t .b); c = middle (t .c) (t .a); k = t .k }
 part atB t = record { a = middle (t .a) (t .b); b = twice (t .b); c = middle (t .b) (t .c); k = t .k }
-part atC t = record { a = middle (t .a) (t .c); b = middle (t .b) (t .c); c = twice (t .c); k = t .k }
-part between t = record { a = middle (t .a) (t .b); b = middle (t .b) (t .c); c = middle (t .a) (t .c); k = t .k }
+part atC t = record { a = middle (t .c) (t .a); b = middle (t .b) (t .c); c = twice (t .c); k = t .k }
+part between t = record { a = middle (t .a) (t .b); b = middle (t .b) (t .c); c = middle (t .c) (t .a); k = t .k }
 
 -- values carried to a part: the double at a corner of the whole, the sum at a middle
 abbrev pub carriedTo : Part → Corners → Corners
-carriedTo atA u = record { a = u .a +ℤ u .a; b = u .a +ℤ u .b; c = u .a +ℤ u .c }
+carriedTo atA u = record { a = u .a +ℤ u .a; b = u .a +ℤ u .b; c = u .c +ℤ u .a }
 carriedTo atB u = record { a = u .a +ℤ u .b; b = u .b +ℤ u .b; c = u .b +ℤ u .c }
-carriedTo atC u = record { a = u .a +ℤ u .c; b = u .b +ℤ u .c; c = u .c +ℤ u .c }
-carriedTo between u = record { a = u .a +ℤ u .b; b = u .b +ℤ u .c; c = u .a +ℤ u .c }
+carriedTo atC u = record { a = u .c +ℤ u .a; b = u .b +ℤ u .c; c = u .c +ℤ u .c }
+carriedTo between u = record { a = u .a +ℤ u .b; b = u .b +ℤ u .c; c = u .c +ℤ u .a }

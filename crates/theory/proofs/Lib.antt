@@ -1,4 +1,6 @@
+pub mod Corners
 pub mod Facts
+pub mod Insides
 pub mod Listed
 pub mod Plane
 pub mod Rounding

@@ -80,7 +80,7 @@ abbrev pub Straight : Vector → Type 0
 Straight d = pos 0 <ℤ ((d .x *ℤ d .x) +ℤ (d .y *ℤ d .y))
 
 -- ---- numbers with positive weights
-never : pos 1 ≤ℤ pos 0 → ⊥
+pub never : pos 1 ≤ℤ pos 0 → ⊥
 never h = h .le
 
 weights : (a b x y : ℤ) → pos 0 <ℤ a → pos 0 <ℤ b → pos 0 ≤ℤ x → pos 0 ≤ℤ y → (a *ℤ x) +ℤ (b *ℤ y) ≡ pos 0 → x ≡ pos 0
@@ -133,7 +133,7 @@ touch d e x at h k =
     equal m n h = omega (arith, ints)
 
 -- ---- two points as far across and as far along are one
-factor-out : (n a : ℤ) → pos 0 <ℤ n → n *ℤ a ≡ pos 0 → a ≡ pos 0
+pub factor-out : (n a : ℤ) → pos 0 <ℤ n → n *ℤ a ≡ pos 0 → a ≡ pos 0
 factor-out n a above e =
     let less : a ≤ℤ pos 0 = *ℤ-cancel-≤ℤ n (one-more above) (≤ℤ-of-≡ (e ∙ sym (*ℤ-zero n))) in
     let more : pos 0 ≤ℤ a = *ℤ-cancel-≤ℤ n (one-more above) (≤ℤ-of-≡ (*ℤ-zero n ∙ sym e)) in

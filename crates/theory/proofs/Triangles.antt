@@ -102,10 +102,10 @@ local-law t ok u s =
 
 -- ---- the four parts
 abbrev split : Part → Three → Three
-split atA v = record { a = v .a ⊕ v .a; b = v .a ⊕ v .b; c = v .a ⊕ v .c }
+split atA v = record { a = v .a ⊕ v .a; b = v .a ⊕ v .b; c = v .c ⊕ v .a }
 split atB v = record { a = v .a ⊕ v .b; b = v .b ⊕ v .b; c = v .b ⊕ v .c }
-split atC v = record { a = v .a ⊕ v .c; b = v .b ⊕ v .c; c = v .c ⊕ v .c }
-split between v = record { a = v .a ⊕ v .b; b = v .b ⊕ v .c; c = v .a ⊕ v .c }
+split atC v = record { a = v .c ⊕ v .a; b = v .b ⊕ v .c; c = v .c ⊕ v .c }
+split between v = record { a = v .a ⊕ v .b; b = v .b ⊕ v .c; c = v .c ⊕ v .a }
 
 -- a part with the corners P has the whole's gradient, in both coordinates, and its area, where the three tests pass
 alike : (ρ : List ℤ) (P : Three → Three) → T (same ρ (Weighed (P U) (P X)) (Weighed U X)) → T (same ρ (Weighed (P U) (P Y)) (Weighed U Y)) → T (same ρ (Area (P X) (P Y)) (Area X Y)) →
