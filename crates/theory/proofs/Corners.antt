@@ -111,7 +111,7 @@ middle-cancel p q r e =
     cancel : (a b c : ℤ) → a +ℤ b ≡ b +ℤ c → a ≡ c
     cancel a b c e = omega (arith, ints)
 
-thrice : (i : Corner) → next (prev i) ≡ i
+pub thrice : (i : Corner) → next (prev i) ≡ i
 thrice A = refl
 thrice B = refl
 thrice C = refl
@@ -142,8 +142,10 @@ flat-area d t h k =
     prove≡ (t .a .x ∷ t .a .y ∷ t .b .x ∷ t .b .y ∷ t .c .x ∷ t .c .y ∷ d .x ∷ d .y ∷ []) ((Across D Q ≈ Across D P) ∷ (Across D R ≈ Across D P) ∷ [])
     ((⊖ (Along D (To P R))) ∷ Along D (To P Q) ∷ []) (Along D D ⊗ Area P Q R) (con (pos 0)) tt (h, (k, tt))
 
-pub not-flat : (d : Vector) (t : Triangle) → Straight d → proper t ≡ true → across d (t .b) ≡ across d (t .a) → across d (t .c) ≡ across d (t .a) → ⊥
-not-flat d t straight ok h k =
-    let none = factor-out ((d .x *ℤ d .x) +ℤ (d .y *ℤ d .y)) (area2 t) straight (flat-area d t h k) in
+pub not-flat : (d : Vector) (t : Triangle) (i : Corner) → Straight d → proper t ≡ true →
+    across d (corner t (next i)) ≡ across d (corner t i) → across d (corner t (prev i)) ≡ across d (corner t i) → ⊥
+not-flat d t i straight ok h k =
+    let none = factor-out ((d .x *ℤ d .x) +ℤ (d .y *ℤ d .y)) (area2 (from-corner t i)) straight (flat-area d (from-corner t i) h k) in
+    let same = turned-area t i in
     let area = area-above t ok in
     omega (arith, ints)

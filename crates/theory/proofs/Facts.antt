@@ -40,23 +40,29 @@ edge-in ts t i m = member-flatMap edgesIn ts t (edge t i) m (among i)
     among B = List·Memᴰ·tail (List·Memᴰ·head refl)
     among C = List·Memᴰ·tail (List·Memᴰ·tail (List·Memᴰ·head refl))
 
+pub edge-index : (t : Triangle) (e : Edge) → List·Memᴰ e (edgesIn t) → (i : Corner) × (e ≡ edge t i)
+edge-index t e (List·Memᴰ·head p) = (A, p)
+edge-index t e (List·Memᴰ·tail (List·Memᴰ·head p)) = (B, p)
+edge-index t e (List·Memᴰ·tail (List·Memᴰ·tail (List·Memᴰ·head p))) = (C, p)
+edge-index t e (List·Memᴰ·tail (List·Memᴰ·tail (List·Memᴰ·tail m))) = elim m [ ]
+
 pub edge-out : (ts : List Triangle) (e : Edge) → List·Memᴰ e (edges ts) → (t : Triangle) × (i : Corner) × List·Memᴰ t ts × (e ≡ edge t i)
 unfolding edges
 edge-out ts e m =
     let at = flatMap-member edgesIn ts e m in
-    let which = index (at .0) e (at .2) in
+    let which = edge-index (at .0) e (at .2) in
     (at .0, which .0, at .1, which .1)
-  where
-    index : (t : Triangle) (e : Edge) → List·Memᴰ e (edgesIn t) → (i : Corner) × (e ≡ edge t i)
-    index t e (List·Memᴰ·head p) = (A, p)
-    index t e (List·Memᴰ·tail (List·Memᴰ·head p)) = (B, p)
-    index t e (List·Memᴰ·tail (List·Memᴰ·tail (List·Memᴰ·head p))) = (C, p)
-    index t e (List·Memᴰ·tail (List·Memᴰ·tail (List·Memᴰ·tail m))) = elim m [ ]
 
-corner-in : (t : Triangle) (i : Corner) → List·Memᴰ (corner t i) (cornersIn t)
+pub corner-in : (t : Triangle) (i : Corner) → List·Memᴰ (corner t i) (cornersIn t)
 corner-in t A = List·Memᴰ·head refl
 corner-in t B = List·Memᴰ·tail (List·Memᴰ·head refl)
 corner-in t C = List·Memᴰ·tail (List·Memᴰ·tail (List·Memᴰ·head refl))
+
+pub corner-out : (t : Triangle) (p : Point) → List·Memᴰ p (cornersIn t) → (i : Corner) × (p ≡ corner t i)
+corner-out t p (List·Memᴰ·head e) = (A, e)
+corner-out t p (List·Memᴰ·tail (List·Memᴰ·head e)) = (B, e)
+corner-out t p (List·Memᴰ·tail (List·Memᴰ·tail (List·Memᴰ·head e))) = (C, e)
+corner-out t p (List·Memᴰ·tail (List·Memᴰ·tail (List·Memᴰ·tail m))) = elim m [ ]
 
 -- ---- two triangles of the plate are one, or parted
 apart-out : (ts : List Triangle) → apart ts ≡ true → (s t : Triangle) → List·Memᴰ s ts → List·Memᴰ t ts → (s ≡ t) ⊎ ((parted s t ≡ true) ⊎ (parted t s ≡ true))

@@ -114,7 +114,7 @@ half-inside p q r straight e =
 abbrev pub doubled : Edge → Edge
 doubled e = record { from = twice (e .from); to = twice (e .to) }
 
-across-doubled : (p q r : Point) → across (vector (twice p) (twice q)) r ≡ across (vector p q) r +ℤ across (vector p q) r
+pub across-doubled : (p q r : Point) → across (vector (twice p) (twice q)) r ≡ across (vector p q) r +ℤ across (vector p q) r
 unfolding across
 across-doubled p q r = solve (numbers p q r) (Across (To (Sum P P) (Sum Q Q)) R) (Across (To P Q) R ⊕ Across (To P Q) R) tt
 
@@ -197,6 +197,21 @@ pub half2-inside : (e : Edge) (r : Point) → Inside (half2 e) r → Inside (dou
 half2-inside e r at =
     let turned : Inside (half1 (back e)) r = subst (λ m. Inside (record { from = twice (e .to); to = m }) r) (middle-comm (e .from) (e .to)) (inside-back (half2 e) r at) in
     inside-back (doubled (back e)) r (half1-inside (back e) r turned)
+
+-- on the edge from the middle of q and r to that of r and p all lies as far across the edge from p to q
+pub across-link : (p q r x : Point) → Inside (record { from = middle q r; to = middle r p }) x → across (vector p q) x ≡ across (vector p q) q +ℤ across (vector p q) r
+unfolding across
+across-link p q r x at =
+    let on = at .on in
+    let here = turned p q r x in
+    let there = turned p q r (middle q r) in
+    let sum = across-middle (vector p q) q r in
+    omega (arith, ints)
+  where
+    turned : (p q r x : Point) → across (vector (middle q r) (middle r p)) x ≡ negℤ (across (vector p q) x)
+    turned p q r x =
+        let X = pair 6 7 in
+        solve (p .x ∷ p .y ∷ q .x ∷ q .y ∷ r .x ∷ r .y ∷ x .x ∷ x .y ∷ []) (Across (To (Sum Q R) (Sum R P)) X) (⊖ (Across (To P Q) X)) tt
 
 -- an end is not inside
 pub from-outside : (e : Edge) (r : Point) → r ≡ e .from → Inside e r → ⊥

@@ -2,7 +2,9 @@ pub mod Corners
 pub mod Facts
 pub mod Insides
 pub mod Listed
+pub mod Meetings
 pub mod Plane
 pub mod Rounding
 pub mod Sameness
+pub mod Separated
 pub mod Triangles

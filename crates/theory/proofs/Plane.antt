@@ -79,6 +79,11 @@ pub record Inside (e : Edge) (r : Point) : Type 0 where
 abbrev pub Straight : Vector → Type 0
 Straight d = pos 0 <ℤ ((d .x *ℤ d .x) +ℤ (d .y *ℤ d .y))
 
+pub straight-opposite : (d : Vector) → Straight d → Straight (opposite d)
+straight-opposite d straight =
+    let both = solve (d .x ∷ d .y ∷ []) (((⊖ var 0) ⊗ (⊖ var 0)) ⊕ ((⊖ var 1) ⊗ (⊖ var 1))) ((var 0 ⊗ var 0) ⊕ (var 1 ⊗ var 1)) tt in
+    omega (arith, ints)
+
 -- ---- numbers with positive weights
 pub never : pos 1 ≤ℤ pos 0 → ⊥
 never h = h .le
