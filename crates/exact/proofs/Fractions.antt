@@ -1,14 +1,14 @@
 -- Fractions with denominators above 0: sums, differences, order and scaling. Assumes nothing.
-use mathlib.Core.Path.{_≡_, sym}
+use mathlib.Core.Path.{_≡_, refl, sym, ap₂}
 use mathlib.Core.List.{List, [], _∷_}
-use Prim.Native.Nat.{ℕ, _+_, _*_, _<_, _≤_}
+use Prim.Native.Nat.{ℕ, _+_, _<_}
 use native.Mathlib.Omega.{arith}
-use native.Mathlib.Nat.{mul-pos}
+use native.Mathlib.Nat.{mul-pos, mul-comm, mul-assoc, one-mul}
 use borrow.Author.Differences.{ints}
 use lib.IntN.{ℤ, pos, _+ℤ_, _*ℤ_}
 use lib.Signed.{_≤ℤ_}
 use Rattle.exact.specs.Fractions.{Fraction, ratio, whole, _+F_, _-F_, negF, scaled, _≤F_, _≈F_}
-use Rattle.exact.proofs.Ring.{Expr, var, con, _⊕_, _⊗_, ⊖_, solve}
+use Rattle.exact.proofs.Ring.{Expr, var, con, _⊕_, _⊗_, ⊖_, one-times, solve}
 use Rattle.exact.proofs.Certificates.{Fact, _≼_, hyp, _⊞_, _⊠_, natural, prove≤}
 use Rattle.exact.proofs.Order.{≤ℤ-of-≡, *ℤ-cancel-≤ℤ, pos-≤ℤ}
 
@@ -99,6 +99,9 @@ pub ≤F-whole : (a b : ℤ) → whole a ≤F whole b → a ≤ℤ b
 pub ≈F-from : (p q : Fraction) → p .num *ℤ pos (q .den) ≡ q .num *ℤ pos (p .den) → p ≈F q
 ≈F-from p q e = (≤ℤ-of-≡ e, ≤ℤ-of-≡ (sym e))
 
+pub ≈F-of-≡ : (p q : Fraction) → p ≡ q → p ≈F q
+≈F-of-≡ p q e = ≈F-from p q (ap₂ (λ a b. a .num *ℤ pos (b .den)) e (sym e))
+
 pub ≈F-sym : (p q : Fraction) → p ≈F q → q ≈F p
 ≈F-sym p q e = (e .1, e .0)
 
@@ -108,26 +111,52 @@ pub ≈F-trans : (p q r : Fraction) → 0 < q .den → p ≈F q → q ≈F r →
 pub ≈F-+ : (p q r s : Fraction) → p ≈F q → r ≈F s → (p +F r) ≈F (q +F s)
 ≈F-+ p q r s e f = (≤F-+ p q r s (e .0) (f .0), ≤F-+ q p s r (e .1) (f .1))
 
-pub +F-comm : (p q : Fraction) → (p +F q) ≈F (q +F p)
-+F-comm p q = ≈F-from (p +F q) (q +F p) (solve (parts p q q q) (lhs (P ⊹ Q) (Q ⊹ P)) (lhs (Q ⊹ P) (P ⊹ Q)) tt)
+pub ≈F-scaled : (z : ℤ) (p q : Fraction) → pos 0 ≤ℤ z → p ≈F q → scaled z p ≈F scaled z q
+≈F-scaled z p q not-negative e = (≤F-scaled z p q not-negative (e .0), ≤F-scaled z q p not-negative (e .1))
 
-pub +F-assoc : (p q r : Fraction) → ((p +F q) +F r) ≈F (p +F (q +F r))
+-- ---- laws of sums: not only the same number, but the same numerator and denominator
+equal : (p q : Fraction) → p .num ≡ q .num → p .den ≡ q .den → p ≡ q
+equal p q n d = λ i. record { num = n i; den = d i }
+
+pub +F-comm : (p q : Fraction) → p +F q ≡ q +F p
++F-comm p q = equal (p +F q) (q +F p) (solve (parts p q q q) ((P ⊹ Q) .n) ((Q ⊹ P) .n) tt) (mul-comm (p .den) (q .den))
+
+pub +F-assoc : (p q r : Fraction) → (p +F q) +F r ≡ p +F (q +F r)
 +F-assoc p q r =
-    ≈F-from ((p +F q) +F r) (p +F (q +F r)) (solve (parts p q r r) (lhs ((P ⊹ Q) ⊹ R) (P ⊹ (Q ⊹ R))) (lhs (P ⊹ (Q ⊹ R)) ((P ⊹ Q) ⊹ R)) tt)
+    equal ((p +F q) +F r) (p +F (q +F r)) (solve (parts p q r r) (((P ⊹ Q) ⊹ R) .n) ((P ⊹ (Q ⊹ R)) .n) tt) (mul-assoc (p .den) (q .den) (r .den))
 
-pub whole-+F : (a b : ℤ) → (whole a +F whole b) ≈F whole (a +ℤ b)
+abbrev nil : Frac
+nil = record { n = con (pos 0); d = con (pos 1) }
+
+pub +F-idl : (p : Fraction) → whole (pos 0) +F p ≡ p
++F-idl p = equal (whole (pos 0) +F p) p (solve (parts p p p p) ((nil ⊹ P) .n) (P .n) tt) (one-mul (p .den))
+
+pub whole-+F : (a b : ℤ) → whole a +F whole b ≡ whole (a +ℤ b)
 whole-+F a b =
     let A : Frac = record { n = var 0; d = con (pos 1) } in
     let B : Frac = record { n = var 1; d = con (pos 1) } in
-    let AB : Frac = record { n = var 0 ⊕ var 1; d = con (pos 1) } in
-    ≈F-from (whole a +F whole b) (whole (a +ℤ b)) (solve (a ∷ b ∷ []) (lhs (A ⊹ B) AB) (lhs AB (A ⊹ B)) tt)
+    equal (whole a +F whole b) (whole (a +ℤ b)) (solve (a ∷ b ∷ []) ((A ⊹ B) .n) (var 0 ⊕ var 1) tt) refl
 
-pub scaled-+F : (z : ℤ) (p q : Fraction) → scaled z (p +F q) ≈F (scaled z p +F scaled z q)
+pub scaled-+F : (z : ℤ) (p q : Fraction) → scaled z (p +F q) ≡ scaled z p +F scaled z q
 scaled-+F z p q =
-    let pq = times (var 4) (P ⊹ Q) in
-    let both = times (var 4) P ⊹ times (var 4) Q in
-    ≈F-from (scaled z (p +F q)) (scaled z p +F scaled z q)
-    (solve (p .num ∷ pos (p .den) ∷ q .num ∷ pos (q .den) ∷ z ∷ []) (lhs pq both) (lhs both pq) tt)
+    equal (scaled z (p +F q)) (scaled z p +F scaled z q)
+    (solve (p .num ∷ pos (p .den) ∷ q .num ∷ pos (q .den) ∷ z ∷ []) (times (var 4) (P ⊹ Q) .n) ((times (var 4) P ⊹ times (var 4) Q) .n) tt) refl
+
+pub scaled-negF : (z : ℤ) (p : Fraction) → scaled z (negF p) ≡ negF (scaled z p)
+scaled-negF z p = equal (scaled z (negF p)) (negF (scaled z p)) (solve (p .num ∷ z ∷ []) (var 1 ⊗ (⊖ var 0)) (⊖ (var 1 ⊗ var 0)) tt) refl
+
+pub scaled-one : (p : Fraction) → scaled (pos 1) p ≡ p
+scaled-one p = equal (scaled (pos 1) p) p (one-times (p .num)) refl
+
+pub scaled-scaled : (y z : ℤ) (p : Fraction) → scaled y (scaled z p) ≡ scaled (y *ℤ z) p
+scaled-scaled y z p = equal (scaled y (scaled z p)) (scaled (y *ℤ z) p) (solve (p .num ∷ y ∷ z ∷ []) (var 1 ⊗ (var 2 ⊗ var 0)) ((var 1 ⊗ var 2) ⊗ var 0) tt) refl
+
+-- four times a fraction, as a sum
+pub four-times : (p : Fraction) → (p +F (p +F (p +F (p +F whole (pos 0))))) ≈F scaled (pos 4) p
+four-times p =
+    let sum = P ⊹ (P ⊹ (P ⊹ (P ⊹ nil))) in
+    let product = times (con (pos 4)) P in
+    ≈F-from (p +F (p +F (p +F (p +F whole (pos 0))))) (scaled (pos 4) p) (solve (parts p p p p) (lhs sum product) (lhs product sum) tt)
 
 -- two fractions over one denominator
 pub ratio-+F : (m n d : ℕ) → (ratio m d +F ratio n d) ≈F ratio (m + n) d

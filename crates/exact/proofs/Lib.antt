@@ -1,6 +1,7 @@
 pub mod Capped
 pub mod Certificates
 pub mod Fractions
+pub mod FractionSums
 pub mod Integers
 pub mod Lists
 pub mod Machine

@@ -12,6 +12,11 @@ use Rattle.exact.specs.Lists.{count, every, any}
 abbrev pub one : Bool → ℕ
 one b = cond b 1 0
 
+-- how many elements pass, as a sum
+abbrev pub ones : {A : Type 0} → (A → Bool) → List A → ℕ
+ones p [] = 0
+ones p (x ∷ xs) = one (p x) + ones p xs
+
 more : (b : Bool) (n : ℕ) → cond b (suc n) n ≡ one b + n
 more true n = omega arith
 more false n = omega arith
@@ -47,6 +52,10 @@ module _ {A : Type 0} where
   -- ---- how many do
   pub count-cons : (p : A → Bool) (x : A) (xs : List A) → count p (x ∷ xs) ≡ one (p x) + count p xs
   count-cons p x xs = more (p x) (count p xs)
+
+  pub count-ones : (p : A → Bool) (xs : List A) → count p xs ≡ ones p xs
+  count-ones p [] = refl
+  count-ones p (x ∷ xs) = count-cons p x xs ∙ ap (λ n. one (p x) + n) (count-ones p xs)
 
   pub count-++ : (p : A → Bool) (xs ys : List A) → count p (xs ++ ys) ≡ count p xs + count p ys
   count-++ p [] ys = omega arith
@@ -113,9 +122,44 @@ module _ {A B : Type 0} where
   pub every-flatMap : (p : B → Bool) (f : A → List B) (xs : List A) → ((x : A) → List·Memᴰ x xs → every p (f x) ≡ true) → every p (flatMap f xs) ≡ true
   every-flatMap p f xs h = every-in p (flatMap f xs) (λ y m. let at = flatMap-member f xs y m in every-out p (f (at .0)) (h (at .0) (at .1)) y (at .2))
 
+  pub count-each : (p : B → Bool) (q : A → Bool) (f : A → List B) (xs : List A) → ((x : A) → List·Memᴰ x xs → count p (f x) ≡ one (q x)) → count p (flatMap f xs) ≡ count q xs
+  unfolding flatMap
+  count-each p q f [] h = refl
+  count-each p q f (x ∷ xs) h =
+      let here = h x (List·Memᴰ·head refl) in
+      let rest = count-each p q f xs (λ y m. h y (List·Memᴰ·tail m)) in
+      let left = count-++ p (f x) (flatMap f xs) in
+      let right = count-cons q x xs in
+      omega arith
+
   pub count-map : (p : B → Bool) (f : A → B) (xs : List A) → count p (map f xs) ≡ count (λ x. p (f x)) xs
   count-map p f [] = refl
   count-map p f (x ∷ xs) = ap (λ n. cond (p (f x)) (suc n) n) (count-map p f xs)
+
+  count-part : (p : B → Bool) (f : A → List B) (xs : List A) (x : A) → List·Memᴰ x xs → count p (f x) ≤ count p (flatMap f xs)
+  unfolding flatMap
+  count-part p f [] x m = elim m [ ]
+  count-part p f (y ∷ ys) x (List·Memᴰ·head e) = let split = count-++ p (f y) (flatMap f ys) in let here = ap (λ w. count p (f w)) e in omega arith
+  count-part p f (y ∷ ys) x (List·Memᴰ·tail m) = let split = count-++ p (f y) (flatMap f ys) in let rest = count-part p f ys x m in omega arith
+
+  twice-counted : (p : B → Bool) (f : A → List B) (z : A) (zs : List A) → count p (f z ++ flatMap f zs) ≡ 1 → (x y : A) → x ≡ z → List·Memᴰ y zs → 0 < count p (f x) → 0 < count p (f y) → ⊥
+  twice-counted p f z zs h x y e n hx hy =
+      let split = count-++ p (f z) (flatMap f zs) in
+      let here = ap (λ w. count p (f w)) e in
+      let rest = count-part p f zs y n in
+      omega arith
+
+  -- where just one element of all the parts passes, it is in one part
+  pub only-one : (p : B → Bool) (f : A → List B) (xs : List A) → count p (flatMap f xs) ≡ 1 → (x y : A) → List·Memᴰ x xs → List·Memᴰ y xs → 0 < count p (f x) → 0 < count p (f y) → x ≡ y
+  unfolding flatMap
+  only-one p f [] h x y m n hx hy = elim m [ ]
+  only-one p f (z ∷ zs) h x y (List·Memᴰ·head e) (List·Memᴰ·head e′) hx hy = e ∙ sym e′
+  only-one p f (z ∷ zs) h x y (List·Memᴰ·head e) (List·Memᴰ·tail n) hx hy = absurd (twice-counted p f z zs h x y e n hx hy)
+  only-one p f (z ∷ zs) h x y (List·Memᴰ·tail m) (List·Memᴰ·head e) hx hy = absurd (twice-counted p f z zs h y x e m hy hx)
+  only-one p f (z ∷ zs) h x y (List·Memᴰ·tail m) (List·Memᴰ·tail n) hx hy =
+      let split = count-++ p (f z) (flatMap f zs) in
+      let rest = count-part p f zs x m in
+      only-one p f zs (omega arith) x y m n hx hy
 
 module _ {A B C : Type 0} where
   pub flatMap-flatMap : (f : A → List B) (g : B → List C) (xs : List A) → flatMap g (flatMap f xs) ≡ flatMap (λ x. flatMap g (f x)) xs

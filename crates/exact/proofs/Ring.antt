@@ -116,7 +116,7 @@ factor-inside c x a b =
 negation-inside : (x a b : ℤ) → negℤ (a +ℤ (x *ℤ b)) ≡ negℤ a +ℤ (x *ℤ negℤ b)
 negation-inside x a b = negℤ-+ℤ a (x *ℤ b) ∙ ap (λ z. negℤ a +ℤ z) (ap negℤ (*ℤ-comm x b) ∙ sym (negℤ-*ℤ b x) ∙ *ℤ-comm (negℤ b) x)
 
-one-times : (x : ℤ) → pos 1 *ℤ x ≡ x
+pub one-times : (x : ℤ) → pos 1 *ℤ x ≡ x
 one-times x = omega (arith, ints)
 
 pub and-left : (a b : Bool) → T (a && b) → T a

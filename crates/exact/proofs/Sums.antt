@@ -7,6 +7,8 @@ use native.Mathlib.Omega.{arith}
 use borrow.Author.Differences.{ints}
 use lib.IntN.{ℤ, pos, _+ℤ_, _*ℤ_, negℤ, +ℤ-assoc, +ℤ-idl, +ℤ-idr, *ℤ-zero, negℤ-+ℤ, sucℤ-*ℤ}
 use lib.Signed.{_≤ℤ_}
+use Rattle.std.specs.shelf.Lists.{sumBy}
+use Rattle.std.proofs.shelf.Sums.{sumBy-cons}
 use Rattle.exact.specs.Lists.{sumZ, count}
 use Rattle.exact.proofs.Integers.{*ℤ-distrib}
 
@@ -88,3 +90,21 @@ module _ {A B : Type 0} where
   unfolding flatMap
   sumZ-flatMap f g [] = refl
   sumZ-flatMap f g (x ∷ xs) = sumZ-++ f (g x) (flatMap g xs) ∙ ap (λ n. sumZ f (g x) +ℤ n) (sumZ-flatMap f g xs)
+
+-- a sum over parts, where the sum over each one's parts is c times as much
+pub sumZ-parts : {A B : Type 0} (c : ℤ) (f : B → ℤ) (g : A → List B) (h : A → ℤ) (xs : List A) → ((x : A) → List·Memᴰ x xs → sumZ f (g x) ≡ c *ℤ h x) →
+    sumZ f (flatMap g xs) ≡ c *ℤ sumZ h xs
+sumZ-parts c f g h xs each = sumZ-flatMap f g xs ∙ sumZ-cong-mem xs each ∙ sumZ-*ℤ c h xs
+
+-- a sum of naturals
+pub sumBy-is : {A : Type 0} (f : A → ℕ) (xs : List A) → pos (sumBy f xs) ≡ sumZ (λ x. pos (f x)) xs
+sumBy-is f [] = refl
+sumBy-is f (x ∷ xs) = ap pos (sumBy-cons f x xs) ∙ ap (λ n. pos (f x) +ℤ n) (sumBy-is f xs)
+
+-- a double sum whose terms change their sign where the two are exchanged is its own negative
+pub sumZ-cancels : {A : Type 0} (f : A → A → ℤ) → ((x y : A) → f x y ≡ negℤ (f y x)) → (xs : List A) → sumZ (λ x. sumZ (λ y. f x y) xs) xs ≡ pos 0
+sumZ-cancels f turns xs =
+    let negative : sumZ (λ x. sumZ (λ y. f x y) xs) xs ≡ negℤ (sumZ (λ x. sumZ (λ y. f x y) xs) xs) =
+    sumZ-cong xs (λ x. sumZ-cong xs (turns x) ∙ sumZ-negℤ (λ y. f y x) xs) ∙ sumZ-negℤ (λ x. sumZ (λ y. f y x) xs) xs
+    ∙ ap negℤ (sumZ-swap (λ x y. f y x) xs xs) in
+    omega (arith, ints)

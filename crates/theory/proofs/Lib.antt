@@ -1,9 +1,16 @@
+pub mod Below
+pub mod Cancel
+pub mod Carried
 pub mod Corners
 pub mod Facts
+pub mod Finenesses
 pub mod Insides
+pub mod Known
 pub mod Listed
 pub mod Meetings
+pub mod Pieces
 pub mod Plane
+pub mod Printed
 pub mod Rounding
 pub mod Sameness
 pub mod Separated

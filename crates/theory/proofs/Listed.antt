@@ -1,23 +1,15 @@
 -- A listed point is found at its own place. Assumes nothing.
 use mathlib.Core.Path.{_≡_, ap, _∙_}
-use mathlib.Core.Bool.{true, false, not, cond}
+use mathlib.Core.Bool.{false, not, cond}
 use mathlib.Core.List.{List, [], _∷_}
 use Prim.Native.Nat.{ℕ, zero, suc, _+_, _<_}
 use native.Mathlib.Omega.{arith}
-use lib.IntN.{ℤ, pos}
+use lib.IntN.{pos}
 use lib.ListN.{length, getD}
-use lib.Signed.{leZ}
-use borrow.Author.Differences.{ints}
-use Rattle.std.proofs.shelf.Tests.{and-from}
 use Rattle.rules.specs.declared.Point.{Point}
-use Rattle.rules.specs.Plates.{same, samePoint, placeOf}
+use Rattle.rules.specs.Plates.{samePoint, placeOf}
 use Rattle.rules.specs.Laws.{ValuesListed}
-
-same-refl : (z : ℤ) → same z z ≡ true
-same-refl z = let le : leZ z z ≡ true = grind (arith, ints) in and-from (leZ z z) (leZ z z) le le
-
-samePoint-refl : (p : Point) → samePoint p p ≡ true
-samePoint-refl p = and-from (same (p .x) (p .x)) (same (p .y) (p .y)) (same-refl (p .x)) (same-refl (p .y))
+use Rattle.theory.proofs.Sameness.{samePoint-refl}
 
 place : (ps : List Point) (i : ℕ) (d : Point) → i < length ps → ((j : ℕ) → j < i → samePoint (getD ps i d) (getD ps j d) ≡ false) → placeOf (getD ps i d) ps ≡ i
 place [] i d h first = absurd (omega arith)

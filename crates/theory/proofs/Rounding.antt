@@ -5,15 +5,16 @@ use native.Mathlib.Omega.{arith}
 use borrow.Author.Differences.{ints}
 use lib.Dec.{T, ltb, ltb→lt}
 use lib.IntN.{ℤ, pos, natAbs}
-use lib.Signed.{_≤ℤ_, ltZ}
+use lib.Signed.{ltZ}
 use Rattle.exact.specs.Fractions.{ratio, whole, _≤F_}
 use Rattle.exact.specs.Rounding.{up}
 use Rattle.exact.proofs.Order.{pos-≤ℤ}
 use Rattle.exact.proofs.Ring.{and-left, and-right}
 use Rattle.exact.proofs.Rounding.{up-reaches}
+use Rattle.rules.specs.declared.Triangle.{Triangle}
 use Rattle.rules.specs.Bounds.{upperIn, upDragIn}
 use Rattle.rules.specs.Laws.{RoundedUp}
-use Rattle.rules.specs.Triangles.{area2, turned, norm}
+use Rattle.rules.specs.Triangles.{area2, proper, turned, norm}
 
 -- k times n / d, and k times the quotient rounded up
 rounded : (k n d : ℕ) → 0 < d → ratio (k * n) d ≤F whole (pos (k * up n d))
@@ -32,11 +33,16 @@ once n d above =
 area-above : (d : ℤ) → T (ltZ (pos 0) d) → 0 < 2 * natAbs d
 area-above d h = omega (arith, ints)
 
+-- the denominators of what is spent and dragged in a proper triangle
+pub above : (t : Triangle) → T (proper t) → (0 < 2 * natAbs (area2 t)) × (0 < 2 * natAbs (area2 t) * t .k)
+above t ok =
+    let area = area-above (area2 t) (and-left (ltZ (pos 0) (area2 t)) (ltb 0 (t .k)) ok) in
+    let k : 0 < t .k = ltb→lt 0 (t .k) (and-right (ltZ (pos 0) (area2 t)) (ltb 0 (t .k)) ok) in
+    (area, mul-pos area k)
+
 pub rounded-up : RoundedUp
 unfolding upperIn upDragIn
 rounded-up t ok u =
     let n = norm (turned t u) in
     let d = 2 * natAbs (area2 t) in
-    let area : 0 < d = area-above (area2 t) (and-left (ltZ (pos 0) (area2 t)) (ltb 0 (t .k)) ok) in
-    let k : 0 < t .k = ltb→lt 0 (t .k) (and-right (ltZ (pos 0) (area2 t)) (ltb 0 (t .k)) ok) in
-    (rounded (t .k) n d area, once n (d * t .k) (mul-pos area k))
+    (rounded (t .k) n d (above t ok .0), once n (d * t .k) (above t ok .1))

@@ -1,5 +1,6 @@
 //! The theorems, each named in the contract of a function, so that a check asks for its proof.
 ghost use Rattle.rules.specs.Laws.{Cross, Squares, LocalLaw, PartsAlike, RoundedUp, ValuesListed};
+ghost use Rattle.rules.specs.Promises.{Below, FieldsCarried, StreamsCarried, Printed, PrintedCarried};
 
 /// What a field spends and a stream drags in one triangle add up to at least their exchange along its edges.
 pub fn law_of_one_triangle() -> u8
@@ -27,6 +28,29 @@ pub fn rounding_is_safe() -> u8
 /// Values in a row belong to the points in their order.
 pub fn values_are_listed() -> u8
     ensures { λ _. ⌜ ValuesListed ⌝ }
+{
+    0
+}
+
+/// No field on a lawful plate spends less than any stream says.
+pub fn no_field_spends_less() -> u8
+    ensures { λ _. ⌜ Below ⌝ }
+{
+    0
+}
+
+/// The upper number is never below what the field spends, the lower one never above what the stream says.
+pub fn printed_numbers_are_safe() -> u8
+    ensures { λ _. ⌜ Printed ⌝ }
+{
+    0
+}
+
+/// Fields and streams can be carried to the finer plate, where all that is spent, said and printed is four times as large.
+pub fn carried_values_are_four_times() -> u8
+    ensures fields { λ _. ⌜ FieldsCarried ⌝ }
+    ensures streams { λ _. ⌜ StreamsCarried ⌝ }
+    ensures printed { λ _. ⌜ PrintedCarried ⌝ }
 {
     0
 }
