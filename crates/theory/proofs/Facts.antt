@@ -31,14 +31,14 @@ pub record Facts (m : Plate) : Type 0 where
   pub is-clear : (e : Edge) (t : Triangle) (i : Corner) → List·Memᴰ e (edges (m .triangles)) → List·Memᴰ t (m .triangles) → inside e (corner t i) ≡ false
 
 -- ---- an edge of the plate is the edge of a triangle
+pub edge-among : (t : Triangle) (i : Corner) → List·Memᴰ (edge t i) (edgesIn t)
+edge-among t A = List·Memᴰ·head refl
+edge-among t B = List·Memᴰ·tail (List·Memᴰ·head refl)
+edge-among t C = List·Memᴰ·tail (List·Memᴰ·tail (List·Memᴰ·head refl))
+
 pub edge-in : (ts : List Triangle) (t : Triangle) (i : Corner) → List·Memᴰ t ts → List·Memᴰ (edge t i) (edges ts)
 unfolding edges
-edge-in ts t i m = member-flatMap edgesIn ts t (edge t i) m (among i)
-  where
-    among : (i : Corner) → List·Memᴰ (edge t i) (edgesIn t)
-    among A = List·Memᴰ·head refl
-    among B = List·Memᴰ·tail (List·Memᴰ·head refl)
-    among C = List·Memᴰ·tail (List·Memᴰ·tail (List·Memᴰ·head refl))
+edge-in ts t i m = member-flatMap edgesIn ts t (edge t i) m (edge-among t i)
 
 pub edge-index : (t : Triangle) (e : Edge) → List·Memᴰ e (edgesIn t) → (i : Corner) × (e ≡ edge t i)
 edge-index t e (List·Memᴰ·head p) = (A, p)

@@ -67,7 +67,7 @@ ends-level : (p q : Point) → across (vector p q) q ≡ across (vector p q) p
 unfolding across
 ends-level p q = solve (numbers p q q) (Across (To P Q) Q) (Across (To P Q) P) tt
 
-across-back : (p q r : Point) → across (vector q p) r ≡ negℤ (across (vector p q) r)
+pub across-back : (p q r : Point) → across (vector q p) r ≡ negℤ (across (vector p q) r)
 unfolding across
 across-back p q r = solve (numbers p q r) (Across (To Q P) R) (⊖ (Across (To P Q) R)) tt
 

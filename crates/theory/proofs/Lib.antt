@@ -6,6 +6,7 @@ pub mod Facts
 pub mod Finenesses
 pub mod Insides
 pub mod Known
+pub mod Links
 pub mod Listed
 pub mod Meetings
 pub mod Pieces

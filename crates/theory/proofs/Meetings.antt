@@ -23,7 +23,7 @@ use Rattle.theory.proofs.Plane.{Inside, Straight, across-middle, touch, same-e
 use Rattle.theory.proofs.Separated.{Separated, parted-out, separated-sym}
 
 -- ---- in one triangle: a corner is at an end of edge k, as high as it, or opposite
-low-or-high : (t : Triangle) (k j : Corner) → ((across (direction (edge t k)) (corner t j) ≡ across (direction (edge t k)) (corner t k)) × ((j ≡ k) ⊎ (j ≡ next k))) ⊎ (j ≡ prev k)
+pub low-or-high : (t : Triangle) (k j : Corner) → ((across (direction (edge t k)) (corner t j) ≡ across (direction (edge t k)) (corner t k)) × ((j ≡ k) ⊎ (j ≡ next k))) ⊎ (j ≡ prev k)
 low-or-high t A A = inl (refl, inl refl)
 low-or-high t A B = inl (level t A, inr refl)
 low-or-high t A C = inr refl
