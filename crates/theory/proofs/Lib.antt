@@ -3,6 +3,7 @@ pub mod Cancel
 pub mod Carried
 pub mod Corners
 pub mod Facts
+pub mod FinerEdges
 pub mod Finenesses
 pub mod Insides
 pub mod Known

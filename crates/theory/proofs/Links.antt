@@ -76,6 +76,11 @@ same-corner-refl C = refl
 same-corner-from : (i j : Corner) → i ≡ j → same-corner i j ≡ true
 same-corner-from i j e = ap (same-corner i) (sym e) ∙ same-corner-refl i
 
+pub turns : (i : Corner) → i ≡ next i → ⊥
+turns A e = true≢false (ap (same-corner A) e)
+turns B e = true≢false (ap (same-corner B) e)
+turns C e = true≢false (ap (same-corner C) e)
+
 some-or-none : (n : ℕ) → (0 < n) ⊎ (n ≡ 0)
 some-or-none zero = inr refl
 some-or-none (suc n) = inl (omega arith)

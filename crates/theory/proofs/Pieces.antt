@@ -58,19 +58,19 @@ twice-is p q e = λ i. record { x = half (p .x) (q .x) (ap (λ m. m .x) e) i; y 
     half : (a b : ℤ) → a +ℤ a ≡ b +ℤ b → a ≡ b
     half a b h = omega (arith, ints)
 
-half1-is : (e f : Edge) → half1 e ≡ half1 f → e ≡ f
+pub half1-is : (e f : Edge) → half1 e ≡ half1 f → e ≡ f
 half1-is e f h =
     let from = twice-is (e .from) (f .from) (ap (λ g. g .from) h) in
     let to = middle-cancel (e .to) (e .from) (f .to) (middle-comm (e .to) (e .from) ∙ ap (λ g. g .to) h ∙ ap (λ p. middle p (f .to)) (sym from)) in
     λ i. record { from = from i; to = to i }
 
-half2-is : (e f : Edge) → half2 e ≡ half2 f → e ≡ f
+pub half2-is : (e f : Edge) → half2 e ≡ half2 f → e ≡ f
 half2-is e f h =
     let to = twice-is (e .to) (f .to) (ap (λ g. g .to) h) in
     let from = middle-cancel (e .from) (e .to) (f .from) (ap (λ g. g .from) h ∙ ap (λ p. middle (f .from) p) (sym to) ∙ middle-comm (f .from) (e .to)) in
     λ i. record { from = from i; to = to i }
 
-same-halves : (half : Edge → Edge) → ((e f : Edge) → half e ≡ half f → e ≡ f) → (e f : Edge) → sameEdge (half e) (half f) ≡ sameEdge e f
+pub same-halves : (half : Edge → Edge) → ((e f : Edge) → half e ≡ half f → e ≡ f) → (e f : Edge) → sameEdge (half e) (half f) ≡ sameEdge e f
 same-halves half is e f =
     tests-equal (sameEdge (half e) (half f)) (sameEdge e f) (λ t. sameEdge-from e f (is e f (edge-is (half e) (half f) t))) (λ t. sameEdge-from (half e) (half f) (ap half (edge-is e f t)))
 
@@ -80,10 +80,10 @@ none f h = let a = ap one (h A) in let b = ap one (h B) in let c = ap one (h C) 
 all-three : (f g : Corner → Bool) → ((i : Corner) → f i ≡ g i) → three f ≡ three g
 all-three f g h = let a = ap one (h A) in let b = ap one (h B) in let c = ap one (h C) in omega arith
 
-differ-from : (e f : Edge) → (e .from ≡ f .from → ⊥) → sameEdge e f ≡ false
+pub differ-from : (e f : Edge) → (e .from ≡ f .from → ⊥) → sameEdge e f ≡ false
 differ-from e f h = sameEdge-not e f (λ is. h (ap (λ g. g .from) is))
 
-differ-to : (e f : Edge) → (e .to ≡ f .to → ⊥) → sameEdge e f ≡ false
+pub differ-to : (e f : Edge) → (e .to ≡ f .to → ⊥) → sameEdge e f ≡ false
 differ-to e f h = sameEdge-not e f (λ is. h (ap (λ g. g .to) is))
 
 -- an edge, of which the beginning, or the end, doubled is no middle in t
