@@ -34,7 +34,7 @@ use Rattle.rules.specs.Triangles.{area2, turned, norm}
 use Rattle.theory.proofs.Facts.{Facts, facts, edge-out}
 use Rattle.theory.proofs.Known.{field-at, stream-at}
 use Rattle.theory.proofs.Sameness.{same-from}
-use Rattle.theory.proofs.Triangles.{parts-alike}
+use Rattle.theory.proofs.Triangles.{parts-alike, part-k}
 
 -- ---- the four parts of a triangle
 abbrev all-parts : List Part
@@ -42,12 +42,6 @@ all-parts = atA ∷ atB ∷ atC ∷ between ∷ []
 
 corners-equal : (u v : Corners) → u .a ≡ v .a → u .b ≡ v .b → u .c ≡ v .c → u ≡ v
 corners-equal u v a b c = λ i. record { a = a i; b = b i; c = c i }
-
-part-k : (p : Part) (t : Triangle) → part p t .k ≡ t .k
-part-k atA t = refl
-part-k atB t = refl
-part-k atC t = refl
-part-k between t = refl
 
 -- four equal numbers
 sum-of-four : (f : Triangle → ℤ) (t : Triangle) (z : ℤ) → ((p : Part) → f (part p t) ≡ z) → sumZ f (parts t) ≡ pos 4 *ℤ z

@@ -3,6 +3,7 @@ pub mod Cancel
 pub mod Carried
 pub mod Corners
 pub mod Facts
+pub mod FinerApart
 pub mod FinerEdges
 pub mod Finenesses
 pub mod Insides

@@ -11,7 +11,7 @@ use Rattle.rules.specs.declared.Triangle.{Triangle}
 use Rattle.rules.specs.declared.Corners.{Corners}
 use Rattle.rules.specs.declared.Vector.{Vector}
 use Rattle.rules.specs.Triangles.{area2, weighed, turned, norm, around}
-use Rattle.rules.specs.Parts.{Part, atA, atB, atC, between}
+use Rattle.rules.specs.Parts.{Part, atA, atB, atC, between, part}
 use Rattle.rules.proofs.Norms.{norm-is}
 use Rattle.rules.specs.Laws.{Cross, Squares, LocalLaw, PartsAlike}
 
@@ -122,3 +122,9 @@ parts-alike atA t u = let e = alike (numbers t u u) (split atA) tt tt tt in (vec
 parts-alike atB t u = let e = alike (numbers t u u) (split atB) tt tt tt in (vector _ _ _ _ (e .0) (e .1), e .2)
 parts-alike atC t u = let e = alike (numbers t u u) (split atC) tt tt tt in (vector _ _ _ _ (e .0) (e .1), e .2)
 parts-alike between t u = let e = alike (numbers t u u) (split between) tt tt tt in (vector _ _ _ _ (e .0) (e .1), e .2)
+
+pub part-k : (p : Part) (t : Triangle) → part p t .k ≡ t .k
+part-k atA t = refl
+part-k atB t = refl
+part-k atC t = refl
+part-k between t = refl
