@@ -28,6 +28,7 @@ pub record Facts (m : Plate) : Type 0 where
   pub outlined-once : (e : Edge) → List·Memᴰ e (outlineEdges m) → times e (outlineEdges m) ≡ 1
   pub one-temperature : (p q : PointValue) → List·Memᴰ p (held m) → List·Memᴰ q (held m) → p .at ≡ q .at → p .value ≡ q .value
   pub is-apart : (s t : Triangle) → List·Memᴰ s (m .triangles) → List·Memᴰ t (m .triangles) → (s ≡ t) ⊎ ((parted s t ≡ true) ⊎ (parted t s ≡ true))
+  pub kept-apart : apart (m .triangles) ≡ true
   pub is-clear : (e : Edge) (t : Triangle) (i : Corner) → List·Memᴰ e (edges (m .triangles)) → List·Memᴰ t (m .triangles) → inside e (corner t i) ≡ false
 
 -- ---- an edge of the plate is the edge of a triangle
@@ -117,5 +118,6 @@ facts m ok =
       outlined-once = λ e n. eqb-true _ _ (line e n .1);
       one-temperature = temperature-out (held m) (p4 .0);
       is-apart = apart-out ts (p5 .0);
+      kept-apart = p5 .0;
       is-clear = clear-out ts (p5 .1)
     }

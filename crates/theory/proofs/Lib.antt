@@ -5,6 +5,7 @@ pub mod Corners
 pub mod Facts
 pub mod FinerApart
 pub mod FinerEdges
+pub mod FinerLawful
 pub mod Finenesses
 pub mod Insides
 pub mod Known

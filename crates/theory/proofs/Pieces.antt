@@ -52,7 +52,7 @@ pub edges-three : (f : Edge → Bool) (t : Triangle) → count f (edgesIn t) ≡
 edges-three f t = let sum = count-ones f (edgesIn t) in omega arith
 
 -- ---- halves are as many as what is halved
-twice-is : (p q : Point) → twice p ≡ twice q → p ≡ q
+pub twice-is : (p q : Point) → twice p ≡ twice q → p ≡ q
 twice-is p q e = λ i. record { x = half (p .x) (q .x) (ap (λ m. m .x) e) i; y = half (p .y) (q .y) (ap (λ m. m .y) e) i }
   where
     half : (a b : ℤ) → a +ℤ a ≡ b +ℤ b → a ≡ b
