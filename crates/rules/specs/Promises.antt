@@ -11,7 +11,7 @@ use Rattle.rules.specs.declared.Triangle.{Triangle}
 use Rattle.rules.specs.Bounds.{upper, upDrag, work, lower}
 use Rattle.rules.specs.Edges.{Corner, corner, edge, direction, across}
 use Rattle.rules.specs.Energy.{isField, isStream, spent, says}
-use Rattle.rules.specs.Finer.{finer, finest, Carried}
+use Rattle.rules.specs.Finer.{finer, finest, Carried, carried}
 use Rattle.rules.specs.Lawful.{lawful, parted}
 use Rattle.rules.specs.Plates.{Plate, Values}
 use Rattle.rules.specs.Triangles.{proper}
@@ -28,9 +28,9 @@ Below = (m : Plate) → lawful m ≡ true → (u s : Values) → isField u m ≡
 abbrev pub FinerLawful : Type 0
 FinerLawful = (m : Plate) → lawful m ≡ true → lawful (finer m) ≡ true
 
--- whatever stands at the points of a lawful plate can be carried to the finer one
+-- whatever stands at the points of a lawful plate can be carried to the finer one: no place is given two values
 abbrev pub CarriedThere : Type 0
-CarriedThere = (m : Plate) → lawful m ≡ true → (u : Values) → (v : Values) × Carried u v m
+CarriedThere = (m : Plate) → lawful m ≡ true → (u : Values) → Carried u (carried u m) m
 
 -- a field carried is a field, and spends four times as much
 abbrev pub FieldsCarried : Type 0

@@ -11,13 +11,15 @@ use Rattle.exact.proofs.Fractions.{+F-den, ≤F-trans, ≤F-scaled, ≤F-whole,
 use Rattle.exact.proofs.FractionSums.{sumF-den}
 use Rattle.rules.specs.Bounds.{upper, lower, work}
 use Rattle.rules.specs.Energy.{isField, isStream, spent, drag, says}
-use Rattle.rules.specs.Finer.{finer, finest, Carried}
+use Rattle.rules.specs.Finer.{finer, finest, Carried, carried}
 use Rattle.rules.specs.Lawful.{lawful}
 use Rattle.rules.specs.Plates.{Plate, Values, cornersOf}
-use Rattle.rules.specs.Promises.{scale, FinerLawful, CarriedThere, HoweverFine, Between, Bracketed}
+use Rattle.rules.specs.Promises.{scale, HoweverFine, Between, Bracketed}
 use Rattle.rules.specs.Triangles.{spentIn, dragIn}
 use Rattle.theory.proofs.Below.{below}
 use Rattle.theory.proofs.Carried.{fields-carried, streams-carried}
+use Rattle.theory.proofs.Carries.{carried-there}
+use Rattle.theory.proofs.FinerLawful.{finer-lawful}
 use Rattle.theory.proofs.Known.{proper-at}
 use Rattle.theory.proofs.Printed.{printed}
 use Rattle.theory.proofs.Rounding.{above}
@@ -52,70 +54,68 @@ finest-meet i j m = let turned : i + j ≡ j + i = omega arith in finest-finest 
 scale-more : (n : ℕ) (p : Fraction) → scaled (scale n) (scaled (pos 4) p) ≡ scaled (scale (suc n)) p
 scale-more n p = scaled-scaled (scale n) (pos 4) p ∙ ap (λ k. scaled (pos k) p) (sym (pow-suc 4 n))
 
-module _ (finer-lawful : FinerLawful) (carried-there : CarriedThere) where
-  lawful-finest : (n : ℕ) (m : Plate) → lawful m ≡ true → lawful (finest n m) ≡ true
+lawful-finest : (n : ℕ) (m : Plate) → lawful m ≡ true → lawful (finest n m) ≡ true
+unfolding finest
+lawful-finest zero m ok = ok
+lawful-finest (suc n) m ok = lawful-finest n (finer m) (finer-lawful m ok)
+
+-- values of a kind, of which a quantity becomes four times as large where they are carried, carried n times
+module _ (kind : Values → Plate → Bool) (quantity : Values → Plate → Fraction) (den : (m : Plate) → lawful m ≡ true → (u : Values) → 0 < quantity u m .den)
+    (carry : (m : Plate) → lawful m ≡ true → (u v : Values) → Carried u v m → kind u m ≡ true → (kind v (finer m) ≡ true) × (quantity v (finer m) ≈F scaled (pos 4) (quantity u m))) where
+  carried-far : (n : ℕ) (m : Plate) → lawful m ≡ true → (u : Values) → kind u m ≡ true →
+      (v : Values) × (kind v (finest n m) ≡ true) × (quantity v (finest n m) ≈F scaled (scale n) (quantity u m))
   unfolding finest
-  lawful-finest zero m ok = ok
-  lawful-finest (suc n) m ok = lawful-finest n (finer m) (finer-lawful m ok)
+  carried-far zero m ok u is = (u, is, ≈F-of-≡ (quantity u m) (scaled (scale 0) (quantity u m)) (sym (scaled-one (quantity u m))))
+  carried-far (suc n) m ok u is =
+      let v = carried u m in
+      let step = carry m ok u v (carried-there m ok u) is in
+      let ok′ = finer-lawful m ok in
+      let far = carried-far n (finer m) ok′ v (step .0) in
+      (far .0, far .1,
+      ≈F-trans (quantity (far .0) (finest n (finer m))) (scaled (scale n) (quantity v (finer m))) (scaled (scale (suc n)) (quantity u m)) (den (finer m) ok′ v) (far .2)
+      (subst (λ p. scaled (scale n) (quantity v (finer m)) ≈F p) (scale-more n (quantity u m)) (≈F-scaled (scale n) (quantity v (finer m)) (scaled (pos 4) (quantity u m)) (natural (4 ^ n)) (step .1))))
 
-  -- values of a kind, of which a quantity becomes four times as large where they are carried, carried n times
-  module _ (kind : Values → Plate → Bool) (quantity : Values → Plate → Fraction) (den : (m : Plate) → lawful m ≡ true → (u : Values) → 0 < quantity u m .den)
-      (carry : (m : Plate) → lawful m ≡ true → (u v : Values) → Carried u v m → kind u m ≡ true → (kind v (finer m) ≡ true) × (quantity v (finer m) ≈F scaled (pos 4) (quantity u m))) where
-    carried-far : (n : ℕ) (m : Plate) → lawful m ≡ true → (u : Values) → kind u m ≡ true →
-        (v : Values) × (kind v (finest n m) ≡ true) × (quantity v (finest n m) ≈F scaled (scale n) (quantity u m))
-    unfolding finest
-    carried-far zero m ok u is = (u, is, ≈F-of-≡ (quantity u m) (scaled (scale 0) (quantity u m)) (sym (scaled-one (quantity u m))))
-    carried-far (suc n) m ok u is =
-        let there = carried-there m ok u in
-        let v = there .0 in
-        let step = carry m ok u v (there .1) is in
-        let ok′ = finer-lawful m ok in
-        let far = carried-far n (finer m) ok′ v (step .0) in
-        (far .0, far .1,
-        ≈F-trans (quantity (far .0) (finest n (finer m))) (scaled (scale n) (quantity v (finer m))) (scaled (scale (suc n)) (quantity u m)) (den (finer m) ok′ v) (far .2)
-        (subst (λ p. scaled (scale n) (quantity v (finer m)) ≈F p) (scale-more n (quantity u m)) (≈F-scaled (scale n) (quantity v (finer m)) (scaled (pos 4) (quantity u m)) (natural (4 ^ n)) (step .1))))
+-- a stream of one fineness and a field of another, to scale
+compared : (m : Plate) → lawful m ≡ true → (i j : ℕ) (u s : Values) → isField u (finest i m) ≡ true → isStream s (finest j m) ≡ true →
+    scaled (scale i) (says s (finest j m)) ≤F scaled (scale j) (spent u (finest i m .triangles))
+compared m ok i j u s field stream =
+    let meet = finest j (finest i m) in
+    let ok-i = lawful-finest i m ok in
+    let ok-j = lawful-finest j m ok in
+    let ok-meet = lawful-finest j (finest i m) ok-i in
+    let spends : Values → Plate → Fraction = λ u m. spent u (m .triangles) in
+    let fine = carried-far isField spends spent-den fields-carried j (finest i m) ok-i u field in
+    let far = carried-far isStream says says-den streams-carried i (finest j m) ok-j s stream in
+    let v = fine .0 in
+    let r = far .0 in
+    let there : (isStream r meet ≡ true) × (says r meet ≈F scaled (scale i) (says s (finest j m))) =
+    subst (λ p. (isStream r p ≡ true) × (says r p ≈F scaled (scale i) (says s (finest j m)))) (finest-meet i j m) (far .1, far .2) in
+    let low = scaled (scale i) (says s (finest j m)) in
+    let high = scaled (scale j) (spends u (finest i m)) in
+    ≤F-trans low (says r meet) high (says-den meet ok-meet r) (there .1 .1)
+    (≤F-trans (says r meet) (spends v meet) high (spent-den meet ok-meet v) (below meet ok-meet v r (fine .1) (there .0)) (fine .2 .0))
 
-  -- a stream of one fineness and a field of another, to scale
-  compared : (m : Plate) → lawful m ≡ true → (i j : ℕ) (u s : Values) → isField u (finest i m) ≡ true → isStream s (finest j m) ≡ true →
-      scaled (scale i) (says s (finest j m)) ≤F scaled (scale j) (spent u (finest i m .triangles))
-  compared m ok i j u s field stream =
-      let meet = finest j (finest i m) in
-      let ok-i = lawful-finest i m ok in
-      let ok-j = lawful-finest j m ok in
-      let ok-meet = lawful-finest j (finest i m) ok-i in
-      let spends : Values → Plate → Fraction = λ u m. spent u (m .triangles) in
-      let fine = carried-far isField spends spent-den fields-carried j (finest i m) ok-i u field in
-      let far = carried-far isStream says says-den streams-carried i (finest j m) ok-j s stream in
-      let v = fine .0 in
-      let r = far .0 in
-      let there : (isStream r meet ≡ true) × (says r meet ≈F scaled (scale i) (says s (finest j m))) =
-      subst (λ p. (isStream r p ≡ true) × (says r p ≈F scaled (scale i) (says s (finest j m)))) (finest-meet i j m) (far .1, far .2) in
-      let low = scaled (scale i) (says s (finest j m)) in
-      let high = scaled (scale j) (spends u (finest i m)) in
-      ≤F-trans low (says r meet) high (says-den meet ok-meet r) (there .1 .1)
-      (≤F-trans (says r meet) (spends v meet) high (spent-den meet ok-meet v) (below meet ok-meet v r (fine .1) (there .0)) (fine .2 .0))
+pub however-fine : HoweverFine
+unfolding finest
+however-fine m ok s stream n u field =
+    subst (λ p. scaled (scale n) (says s m) ≤F p) (scaled-one (spent u (finest n m .triangles))) (compared m ok n 0 u s field stream)
 
-  pub however-fine : HoweverFine
-  unfolding finest
-  however-fine m ok s stream n u field =
-      subst (λ p. scaled (scale n) (says s m) ≤F p) (scaled-one (spent u (finest n m .triangles))) (compared m ok n 0 u s field stream)
+pub between : Between
+between m ok i j u s field stream =
+    let ok-i = lawful-finest i m ok in
+    let ok-j = lawful-finest j m ok in
+    let low = scale i *ℤ lower s (finest j m) in
+    let high = scale j *ℤ pos (upper u (finest i m .triangles)) in
+    let said = scaled (scale i) (says s (finest j m)) in
+    let spends = scaled (scale j) (spent u (finest i m .triangles)) in
+    ≤F-whole low high
+    (≤F-trans (whole low) said (whole high) (says-den (finest j m) ok-j s) (printed-low i (finest j m) ok-j s)
+    (≤F-trans said spends (whole high) (spent-den (finest i m) ok-i u) (compared m ok i j u s field stream) (printed-high j (finest i m) ok-i u)))
 
-  pub between : Between
-  between m ok i j u s field stream =
-      let ok-i = lawful-finest i m ok in
-      let ok-j = lawful-finest j m ok in
-      let low = scale i *ℤ lower s (finest j m) in
-      let high = scale j *ℤ pos (upper u (finest i m .triangles)) in
-      let said = scaled (scale i) (says s (finest j m)) in
-      let spends = scaled (scale j) (spent u (finest i m .triangles)) in
-      ≤F-whole low high
-      (≤F-trans (whole low) said (whole high) (says-den (finest j m) ok-j s) (printed-low i (finest j m) ok-j s)
-      (≤F-trans said spends (whole high) (spent-den (finest i m) ok-i u) (compared m ok i j u s field stream) (printed-high j (finest i m) ok-i u)))
-
-  pub bracketed : Bracketed
-  unfolding finest
-  bracketed m ok u s field stream = record {
-      fields = λ n w is. ≤F-trans (whole (scale n *ℤ lower s m)) (scaled (scale n) (says s m)) (spent w (finest n m .triangles)) (says-den m ok s)
-      (printed-low n m ok s) (however-fine m ok s stream n w is);
-      streams = λ n r is. ≤F-trans (says r (finest n m)) (scaled (scale n) (spent u (m .triangles))) (whole (scale n *ℤ pos (upper u (m .triangles)))) (spent-den m ok u)
-      (subst (λ p. p ≤F scaled (scale n) (spent u (m .triangles))) (scaled-one (says r (finest n m))) (compared m ok 0 n u r field is)) (printed-high n m ok u) }
+pub bracketed : Bracketed
+unfolding finest
+bracketed m ok u s field stream = record {
+    fields = λ n w is. ≤F-trans (whole (scale n *ℤ lower s m)) (scaled (scale n) (says s m)) (spent w (finest n m .triangles)) (says-den m ok s)
+    (printed-low n m ok s) (however-fine m ok s stream n w is);
+    streams = λ n r is. ≤F-trans (says r (finest n m)) (scaled (scale n) (spent u (m .triangles))) (whole (scale n *ℤ pos (upper u (m .triangles)))) (spent-den m ok u)
+    (subst (λ p. p ≤F scaled (scale n) (spent u (m .triangles))) (scaled-one (says r (finest n m))) (compared m ok 0 n u r field is)) (printed-high n m ok u) }

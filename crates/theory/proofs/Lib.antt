@@ -1,6 +1,7 @@
 pub mod Below
 pub mod Cancel
 pub mod Carried
+pub mod Carries
 pub mod Corners
 pub mod Facts
 pub mod FinerApart

@@ -5,7 +5,7 @@ use mathlib.Core.Logic.{_⊎_, inl, inr, ⊎-elim}
 use mathlib.Core.List.{List, List·Memᴰ}
 use native.Mathlib.Omega.{arith}
 use borrow.Author.Differences.{ints}
-use lib.IntN.{ℤ, pos, negℤ, _+ℤ_, _-ℤ_, _*ℤ_}
+use lib.IntN.{ℤ, pos, negℤ, _+ℤ_, _-ℤ_, _*ℤ_, +ℤ-comm}
 use lib.Signed.{_≤ℤ_, _<ℤ_}
 use Rattle.rules.specs.declared.Point.{Point}
 use Rattle.rules.specs.declared.Edge.{Edge}
@@ -14,7 +14,7 @@ use Rattle.rules.specs.declared.Vector.{Vector}
 use Rattle.rules.specs.Edges.{Corner, A, B, C, next, corner, edge, back, direction, vector, across, along}
 use Rattle.rules.specs.Finer.{half1, half2}
 use Rattle.rules.specs.Parts.{middle, twice}
-use Rattle.rules.specs.Plates.{Plate}
+use Rattle.rules.specs.Plates.{Plate, Values}
 use Rattle.rules.specs.Triangles.{area2, proper}
 use Rattle.theory.proofs.Corners.{prev, mid, thrice, middle-comm, level, higher, area-above, middle-index, straight-edge, not-flat}
 use Rattle.theory.proofs.Facts.{Facts, edge-in}
@@ -110,24 +110,30 @@ own-link t ok k i j at =
     one-low l (inl e) is = to-outside _ x (is ∙ ap (λ n. middle (corner t (prev k)) (corner t n)) e) at′
     one-low l (inr e) is = from-outside _ x (is ∙ ap (λ n. middle (corner t (prev k)) (corner t n)) e ∙ middle-comm (corner t (prev k)) (corner t (next k))) at′
 
--- a sum of two corners is a corner doubled, or a middle
-corner-or-middle : (t : Triangle) (i j : Corner) → ((l : Corner) × (middle (corner t i) (corner t j) ≡ twice (corner t l))) ⊎ ((l : Corner) × (middle (corner t i) (corner t j) ≡ mid t l))
-corner-or-middle t i j = ⊎-elim (λ e. inl (i, ap (λ l. middle (corner t i) (corner t l)) e)) middles (neighbours i j)
-  where
-    neighbours : (i j : Corner) → (j ≡ i) ⊎ ((j ≡ next i) ⊎ (i ≡ next j))
-    neighbours A A = inl refl
-    neighbours A B = inr (inl refl)
-    neighbours A C = inr (inr refl)
-    neighbours B A = inr (inr refl)
-    neighbours B B = inl refl
-    neighbours B C = inr (inl refl)
-    neighbours C A = inr (inl refl)
-    neighbours C B = inr (inr refl)
-    neighbours C C = inl refl
+-- two corners are one, or neighbours
+pub neighbours : (i j : Corner) → (j ≡ i) ⊎ ((j ≡ next i) ⊎ (i ≡ next j))
+neighbours A A = inl refl
+neighbours A B = inr (inl refl)
+neighbours A C = inr (inr refl)
+neighbours B A = inr (inr refl)
+neighbours B B = inl refl
+neighbours B C = inr (inl refl)
+neighbours C A = inr (inl refl)
+neighbours C B = inr (inr refl)
+neighbours C C = inl refl
 
-    middles : (j ≡ next i) ⊎ (i ≡ next j) → ((l : Corner) × (middle (corner t i) (corner t j) ≡ twice (corner t l))) ⊎ ((l : Corner) × (middle (corner t i) (corner t j) ≡ mid t l))
-    middles (inl e) = inr (i, ap (λ l. middle (corner t i) (corner t l)) e)
-    middles (inr e) = inr (j, middle-comm (corner t i) (corner t j) ∙ ap (λ l. middle (corner t j) (corner t l)) e)
+-- a sum of two corners is a corner doubled, or a middle; and values, summed in the same way, are those there
+pub record Spot (u : Values) (t : Triangle) (i j : Corner) (k l : Corner) : Type 0 where
+  pub place : middle (corner t i) (corner t j) ≡ middle (corner t k) (corner t l)
+  pub sum : u (corner t i) +ℤ u (corner t j) ≡ u (corner t k) +ℤ u (corner t l)
+
+pub corner-or-middle : (u : Values) (t : Triangle) (i j : Corner) → ((l : Corner) × Spot u t i j l l) ⊎ ((l : Corner) × Spot u t i j l (next l))
+corner-or-middle u t i j =
+    ⊎-elim (λ e. inl (i, record { place = ap (λ l. middle (corner t i) (corner t l)) e; sum = ap (λ l. u (corner t i) +ℤ u (corner t l)) e }))
+    (λ n. inr (⊎-elim (λ e. (i, record { place = ap (λ l. middle (corner t i) (corner t l)) e; sum = ap (λ l. u (corner t i) +ℤ u (corner t l)) e }))
+      (λ e. (j, record {
+        place = middle-comm (corner t i) (corner t j) ∙ ap (λ l. middle (corner t j) (corner t l)) e;
+        sum = +ℤ-comm (u (corner t i)) (u (corner t j)) ∙ ap (λ l. u (corner t j) +ℤ u (corner t l)) e })) n)) (neighbours i j)
 
 module _ (m : Plate) (known : Facts m) where
   abbrev pub In : Triangle → Type 0
@@ -172,16 +178,16 @@ module _ (m : Plate) (known : Facts m) where
   -- ---- no corner of the finer plate lies inside an edge of it
   -- a corner or middle inside an edge is its middle
   inside-edge : (s t : Triangle) (i a b : Corner) → In s → In t → Inside (doubled (edge s i)) (middle (corner t a) (corner t b)) → middle (corner t a) (corner t b) ≡ mid s i
-  inside-edge s t i a b ns nt at = ⊎-elim corners middles (corner-or-middle t a b)
+  inside-edge s t i a b ns nt at = ⊎-elim corners middles (corner-or-middle (λ p. pos 0) t a b)
     where
       x : Point
       x = middle (corner t a) (corner t b)
 
-      corners : ((l : Corner) × (x ≡ twice (corner t l))) → x ≡ mid s i
-      corners c = absurd (free s t i (c .0) ns nt (inside-doubled (edge s i) (corner t (c .0)) (subst (Inside (doubled (edge s i))) (c .1) at)))
+      corners : ((l : Corner) × Spot (λ p. pos 0) t a b l l) → x ≡ mid s i
+      corners c = absurd (free s t i (c .0) ns nt (inside-doubled (edge s i) (corner t (c .0)) (subst (Inside (doubled (edge s i))) (c .1 .place) at)))
 
-      middles : ((l : Corner) × (x ≡ mid t l)) → x ≡ mid s i
-      middles c = c .1 ∙ middle-of s t i (c .0) (inside-middle s t i (c .0) ns nt (subst (Inside (doubled (edge s i))) (c .1) at))
+      middles : ((l : Corner) × Spot (λ p. pos 0) t a b l (next l)) → x ≡ mid s i
+      middles c = c .1 .place ∙ middle-of s t i (c .0) (inside-middle s t i (c .0) ns nt (subst (Inside (doubled (edge s i))) (c .1 .place) at))
 
   pub half1-clear : (s t : Triangle) (i a b : Corner) → In s → In t → Inside (half1 (edge s i)) (middle (corner t a) (corner t b)) → ⊥
   half1-clear s t i a b ns nt at = to-outside (half1 (edge s i)) _ (inside-edge s t i a b ns nt (half1-inside (edge s i) _ at)) at
