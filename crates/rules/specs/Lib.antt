@@ -4,9 +4,14 @@ pub mod Plates
 pub mod Numbers
 pub mod Limits
 pub mod Bounds
+pub mod Within
 pub mod Edges
 pub mod Lawful
 pub mod Finer
+pub mod Written
 pub mod Energy
+pub mod Verdicts
+pub mod Settled
 pub mod Laws
 pub mod Promises
+pub mod Table

@@ -6,14 +6,17 @@ use lib.Dec.{ltb, leb, eqb}
 use lib.IntN.{ℤ, pos, natAbs}
 use lib.ListN.{length}
 use lib.Signed.{leZ}
+use Rattle.exact.specs.Lists.{every}
+use Rattle.std.specs.Iters.{counting}
 use Rattle.rules.specs.declared.Point.{Point}
+use Rattle.rules.specs.declared.Edge.{Edge}
 use Rattle.rules.specs.declared.Triangle.{Triangle}
 use Rattle.rules.specs.declared.Corners.{Corners}
 use Rattle.rules.specs.declared.Vector.{Vector}
 use Rattle.rules.specs.declared.OutlineEdge.{OutlineEdge}
 use Rattle.rules.specs.declared.OutlineEdge.the-variants.{Closed, Held}
-use Rattle.rules.specs.Plates.{Values}
-use Rattle.rules.specs.Numbers.{numberAt, triangleCount, outlineCount}
+use Rattle.rules.specs.Plates.{Plate, Values}
+use Rattle.rules.specs.Numbers.{numberAt, triangleCount, outlineCount, outlineStart}
 use Rattle.rules.specs.Triangles.{proper, turned}
 
 -- at most b from nought
@@ -27,11 +30,29 @@ nearPoint p = near 32768 (p .x) && near 32768 (p .y)
 unfoldable pub modest : Triangle → Bool
 modest t = (nearPoint (t .a) && nearPoint (t .b)) && (nearPoint (t .c) && ltb (t .k) 4096)
 
+abbrev pub nearEdge : Edge → Bool
+nearEdge e = nearPoint (e .from) && nearPoint (e .to)
+
+-- an outline edge whose coordinates and, where it is held, temperatures are within the limits
+unfoldable pub mild : OutlineEdge → Bool
+mild (Closed e) = nearEdge e
+mild (Held e g h) = nearEdge e && (near (2 ^ 20) g && near (2 ^ 20) h)
+
+unfoldable pub modestPlate : Plate → Bool
+modestPlate m = every modest (m .triangles) && every mild (m .outline)
+
 -- as many numbers as the two counts need, from 1 to 65,536 triangles and up to 65,536 outline edges
 abbrev pub counts : List ℤ → Bool
 counts zs =
     (leb 2 (length zs) && (leZ (pos 1) (numberAt zs 0) && leZ (numberAt zs 0) (pos 65536))) && ((leZ (pos 0) (numberAt zs 1) && leZ (numberAt zs 1) (pos 65536)) &&
     eqb (length zs) (2 + 7 * (triangleCount zs + outlineCount zs)))
+
+-- outline edge i is marked 0, closed, or 1, held
+unfoldable pub marked : List ℤ → ℕ → Bool
+marked zs i = let kind = numberAt zs (outlineStart zs i) in leZ (pos 0) kind && leZ kind (pos 1)
+
+abbrev pub allMarked : List ℤ → Bool
+allMarked zs = every (marked zs) (counting 0 (outlineCount zs))
 
 abbrev pub nearCorners : Corners → Bool
 nearCorners u = near (2 ^ 20) (u .a) && (near (2 ^ 20) (u .b) && near (2 ^ 20) (u .c))

@@ -1,11 +1,12 @@
 -- Plates, the points of a plate, and values at its points. Assumes nothing.
-use mathlib.Core.Bool.{Bool, _&&_, not}
-use mathlib.Core.List.{List}
+use mathlib.Core.Bool.{Bool, _&&_, not, cond}
+use mathlib.Core.List.{List, [], _∷_, _++_}
 use Prim.Native.Nat.{ℕ}
+use lib.Dec.{ltb}
 use lib.IntN.{ℤ, pos}
-use lib.ListN.{getD}
+use lib.ListN.{length, getD}
 use lib.Signed.{leZ}
-use Rattle.std.specs.shelf.Lists.{leading}
+use Rattle.std.specs.shelf.Lists.{folded, leading}
 use Rattle.rules.specs.declared.Point.{Point}
 use Rattle.rules.specs.declared.Triangle.{Triangle}
 use Rattle.rules.specs.declared.OutlineEdge.{OutlineEdge}
@@ -31,6 +32,21 @@ pub record PointValue : Type 0 where
 abbrev pub placeOf : Point → List Point → ℕ
 placeOf p ps = leading (λ q. not (samePoint p q)) ps
 
+-- p is one of the points ps
+abbrev pub among : Point → List Point → Bool
+among p ps = ltb (placeOf p ps) (length ps)
+
+-- p behind the points ps, unless it is one of them
+unfoldable pub noted : List Point → Point → List Point
+noted ps p = cond (among p ps) ps (ps ++ p ∷ [])
+
+abbrev pub cornersNoted : List Point → Triangle → List Point
+cornersNoted ps t = noted (noted (noted ps (t .a)) (t .b)) (t .c)
+
+-- the points of a plate, in the order in which its triangles first name them
+abbrev pub pointsOf : List Triangle → List Point
+pointsOf ts = folded cornersNoted [] ts
+
 -- a number at each point, drawn linearly over each triangle
 abbrev pub Values : Type 0
 Values = Point → ℤ
@@ -38,6 +54,10 @@ Values = Point → ℤ
 -- the numbers zs in the order of the points ps: at p the number at its place, and nought where there is none
 abbrev pub valuesAt : List Point → List ℤ → Values
 valuesAt ps zs p = getD zs (placeOf p ps) (pos 0)
+
+-- the numbers zs in the order of the plate's points
+abbrev pub valuesOf : Plate → List ℤ → Values
+valuesOf m zs = valuesAt (pointsOf (m .triangles)) zs
 
 abbrev pub cornersOf : Values → Triangle → Corners
 cornersOf u t = record { a = u (t .a); b = u (t .b); c = u (t .c) }

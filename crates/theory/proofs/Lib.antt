@@ -19,4 +19,5 @@ pub mod Printed
 pub mod Rounding
 pub mod Sameness
 pub mod Separated
+pub mod Table
 pub mod Triangles

@@ -1,6 +1,7 @@
 //! The theorems, each named in the contract of a function, so that a check asks for its proof.
 ghost use Rattle.rules.specs.Laws.{Cross, Squares, LocalLaw, PartsAlike, RoundedUp, ValuesListed};
-ghost use Rattle.rules.specs.Promises.{Below, FieldsCarried, StreamsCarried, Printed, PrintedCarried};
+ghost use Rattle.rules.specs.Promises.{Below, FinerLawful, CarriedThere, FieldsCarried, StreamsCarried, HoweverFine, Printed, Between, PrintedCarried, Bracketed};
+ghost use Rattle.rules.specs.Table.{TableHolds};
 
 /// What a field spends and a stream drags in one triangle add up to at least their exchange along its edges.
 pub fn law_of_one_triangle() -> u8
@@ -39,6 +40,30 @@ pub fn no_field_spends_less() -> u8
     0
 }
 
+/// A finer plate of a lawful one is lawful, and whatever stands at the coarse one's points can be carried to it.
+pub fn finer_plates_are_lawful() -> u8
+    ensures lawful { λ _. ⌜ FinerLawful ⌝ }
+    ensures carried { λ _. ⌜ CarriedThere ⌝ }
+{
+    0
+}
+
+/// A field carried to the finer plate is a field, and a stream a stream; all that is spent, said and printed is four times as large.
+pub fn carried_values_are_four_times() -> u8
+    ensures fields { λ _. ⌜ FieldsCarried ⌝ }
+    ensures streams { λ _. ⌜ StreamsCarried ⌝ }
+    ensures printed { λ _. ⌜ PrintedCarried ⌝ }
+{
+    0
+}
+
+/// However fine a plate is made, and whatever field is taken there, it spends at least what a stream on the coarse plate says.
+pub fn however_fine() -> u8
+    ensures { λ _. ⌜ HoweverFine ⌝ }
+{
+    0
+}
+
 /// The upper number is never below what the field spends, the lower one never above what the stream says.
 pub fn printed_numbers_are_safe() -> u8
     ensures { λ _. ⌜ Printed ⌝ }
@@ -46,11 +71,17 @@ pub fn printed_numbers_are_safe() -> u8
     0
 }
 
-/// Fields and streams can be carried to the finer plate, where all that is spent, said and printed is four times as large.
-pub fn carried_values_are_four_times() -> u8
-    ensures fields { λ _. ⌜ FieldsCarried ⌝ }
-    ensures streams { λ _. ⌜ StreamsCarried ⌝ }
-    ensures printed { λ _. ⌜ PrintedCarried ⌝ }
+/// The lower number at any fineness is at most the upper one at any other, and the two bracket what every field spends and every stream says.
+pub fn printed_numbers_bracket() -> u8
+    ensures between { λ _. ⌜ Between ⌝ }
+    ensures bracketed { λ _. ⌜ Bracketed ⌝ }
+{
+    0
+}
+
+/// The definitions give what the table of cases says.
+pub fn table_of_cases() -> u8
+    ensures { λ _. ⌜ TableHolds ⌝ }
 {
     0
 }
