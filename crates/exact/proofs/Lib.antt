@@ -1,11 +1,12 @@
 pub mod Capped
 pub mod Certificates
-pub mod Fractions
 pub mod FractionSums
+pub mod Fractions
 pub mod Integers
 pub mod Lists
 pub mod Machine
 pub mod Members
+pub mod Mixes
 pub mod Order
 pub mod Products
 pub mod Ring

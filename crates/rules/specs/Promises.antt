@@ -1,6 +1,6 @@
 -- What is promised of every lawful plate. Each promise is a type; a proof of it is the theorem. Assumes nothing.
 use mathlib.Core.Path.{_≡_}
-use mathlib.Core.Bool.{true}
+use mathlib.Core.Bool.{true, false}
 use mathlib.Core.List.{List}
 use Prim.Native.Nat.{ℕ, _*_, _^_, _<_}
 use lib.IntN.{ℤ, pos, _*ℤ_}
@@ -89,3 +89,8 @@ Strictly N t z = (i : Corner) → let d = direction (edge t i) in (pos N *ℤ ac
 abbrev pub PartedMeans : Type 0
 PartedMeans =
     (s t : Triangle) → proper s ≡ true → proper t ≡ true → parted s t ≡ true → (N : ℕ) → 0 < N → (z : Point) → Strictly N s z → Strictly N t z → ⊥
+
+-- and two proper triangles that are not parted have one, at some scale
+abbrev pub NotPartedMeans : Type 0
+NotPartedMeans =
+    (s t : Triangle) → proper s ≡ true → proper t ≡ true → parted s t ≡ false → (N : ℕ) × (0 < N) × (z : Point) × Strictly N s z × Strictly N t z

@@ -46,7 +46,7 @@ R = pair 4 5
 abbrev numbers : Point → Point → Point → List ℤ
 numbers p q r = p .x ∷ p .y ∷ q .x ∷ q .y ∷ r .x ∷ r .y ∷ []
 
-abbrev Area : Pair → Pair → Pair → Expr
+abbrev pub Area : Pair → Pair → Pair → Expr
 Area p q r = ((q .x ⊝ p .x) ⊗ (r .y ⊝ p .y)) ⊝ ((r .x ⊝ p .x) ⊗ (q .y ⊝ p .y))
 
 abbrev from-corner : Triangle → Corner → Triangle

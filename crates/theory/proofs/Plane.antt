@@ -176,7 +176,7 @@ one-sign a b h =
       (λ hb. by-ltZ a (pos 0) (λ ha′. inr (ha′, hb)) (λ ha′. absurd (not-across a b h ha′ (omega (arith, ints)))))
       (λ hb. absurd (not-across b a (subst (λ n. pos 0 <ℤ n) (*ℤ-comm a b) h) hb ha)))
 
-product-above : (a b : ℤ) → pos 0 <ℤ a → pos 0 <ℤ b → pos 0 <ℤ (a *ℤ b)
+pub product-above : (a b : ℤ) → pos 0 <ℤ a → pos 0 <ℤ b → pos 0 <ℤ (a *ℤ b)
 product-above a b ha hb =
     below (prove≤ (a ∷ b ∷ []) ((con (pos 1) ≼ var 0) ∷ (con (pos 1) ≼ var 1) ∷ []) ((hyp 0 ⊠ hyp 1) ⊞ hyp 0 ⊞ hyp 1) (con (pos 1)) (var 0 ⊗ var 1) tt (one-more ha, (one-more hb, tt)))
 

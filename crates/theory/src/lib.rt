@@ -1,6 +1,6 @@
 //! The theorems, each named in the contract of a function, so that a check asks for its proof.
 ghost use Rattle.rules.specs.Laws.{Cross, Squares, LocalLaw, PartsAlike, RoundedUp, ValuesListed};
-ghost use Rattle.rules.specs.Promises.{Below, FinerLawful, CarriedThere, FieldsCarried, StreamsCarried, HoweverFine, Printed, Between, PrintedCarried, Bracketed};
+ghost use Rattle.rules.specs.Promises.{Below, FinerLawful, CarriedThere, FieldsCarried, StreamsCarried, HoweverFine, Printed, Between, PrintedCarried, Bracketed, PartedMeans, NotPartedMeans};
 ghost use Rattle.rules.specs.Table.{TableHolds};
 
 /// What a field spends and a stream drags in one triangle add up to at least their exchange along its edges.
@@ -75,6 +75,20 @@ pub fn printed_numbers_are_safe() -> u8
 pub fn printed_numbers_bracket() -> u8
     ensures between { λ _. ⌜ Between ⌝ }
     ensures bracketed { λ _. ⌜ Bracketed ⌝ }
+{
+    0
+}
+
+/// Two parted triangles have no inner point in common.
+pub fn parted_triangles_share_no_inner_point() -> u8
+    ensures { λ _. ⌜ PartedMeans ⌝ }
+{
+    0
+}
+
+/// Two proper triangles that are not parted have an inner point in common.
+pub fn not_parted_triangles_share_an_inner_point() -> u8
+    ensures { λ _. ⌜ NotPartedMeans ⌝ }
 {
     0
 }
