@@ -14,4 +14,5 @@ pub mod Verdicts
 pub mod Settled
 pub mod Laws
 pub mod Promises
+pub mod Calls
 pub mod Table

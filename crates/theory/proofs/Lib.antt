@@ -19,6 +19,7 @@ pub mod Parted
 pub mod Pieces
 pub mod Plane
 pub mod Printed
+pub mod ReadBack
 pub mod Rounding
 pub mod Sameness
 pub mod Separated
