@@ -119,6 +119,10 @@ module _ {A B : Type 0} where
   flatMap-member f (x ∷ xs) y m =
       ⊎-elim (λ n. (x, List·Memᴰ·head refl, n)) (λ n. let rest = flatMap-member f xs y n in (rest .0, List·Memᴰ·tail (rest .1), rest .2)) (List·Memᴰ·append-cases (f x) m)
 
+  pub every-map : (p : B → Bool) (f : A → B) (xs : List A) → every p (map f xs) ≡ every (λ x. p (f x)) xs
+  every-map p f [] = refl
+  every-map p f (x ∷ xs) = ap (λ b. p (f x) && b) (every-map p f xs)
+
   pub every-flatMap : (p : B → Bool) (f : A → List B) (xs : List A) → ((x : A) → List·Memᴰ x xs → every p (f x) ≡ true) → every p (flatMap f xs) ≡ true
   every-flatMap p f xs h = every-in p (flatMap f xs) (λ y m. let at = flatMap-member f xs y m in every-out p (f (at .0)) (h (at .0) (at .1)) y (at .2))
 

@@ -1,3 +1,4 @@
+pub mod Answered
 pub mod Below
 pub mod Blends
 pub mod Cancel

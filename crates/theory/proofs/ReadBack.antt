@@ -1,20 +1,24 @@
 -- A plate is read as it was written. Assumes nothing.
 use mathlib.Core.Path.{_≡_, refl, sym, ap, ap₂, _∙_}
-use mathlib.Core.Bool.{true, false, cond}
-use mathlib.Core.List.{List, [], _∷_, _++_, map, flatMap, append-assoc, append-nil}
+use mathlib.Core.Bool.{true, cond, _&&_}
+use mathlib.Core.List.{List, [], _∷_, _++_, map, flatMap, append-assoc, append-nil, map-id}
 use Prim.Native.Nat.{ℕ, zero, suc, _+_, _*_}
 use native.Mathlib.Omega.{arith}
 use lib.Dec.{eqb}
 use lib.IntN.{ℤ, pos}
 use lib.ListN.{length, getD, length-append}
 use lib.Seq.{getD-append-add}
+use lib.Signed.{leZ}
 use Rattle.std.specs.Iters.{counting}
+use Rattle.exact.specs.Lists.{every}
+use Rattle.exact.proofs.Members.{every-in, every-map}
 use Rattle.rules.specs.declared.Point.{Point}
 use Rattle.rules.specs.declared.Edge.{Edge}
 use Rattle.rules.specs.declared.Triangle.{Triangle}
 use Rattle.rules.specs.declared.OutlineEdge.{OutlineEdge}
 use Rattle.rules.specs.declared.OutlineEdge.the-variants.{Closed, Held}
 use Rattle.rules.specs.Calls.{ReadAsWritten}
+use Rattle.rules.specs.Limits.{marked, allMarked}
 use Rattle.rules.specs.Numbers.{numberAt, natural, pointAt, triangleAt, outlineAt, triangleStart, outlineStart, plateOf}
 use Rattle.rules.specs.Plates.{Plate}
 use Rattle.rules.specs.Written.{written, writtenTriangle, writtenEdge}
@@ -62,9 +66,9 @@ outline-read pre post (Closed e) i begins = seven-read pre post (pos 0) e (pos 0
 outline-read pre post (Held e g h) i begins = seven-read pre post (pos 1) e g h i begins
 
 -- ---- rows of seven numbers each, written one behind the other and read one by one
-module _ {X : Type 0} (row : X → List ℤ) (seven-long : (x : X) → length (row x) ≡ 7) (zs : List ℤ) (at : ℕ → X) (start : ℕ)
-    (read : (pre post : List ℤ) (x : X) (i : ℕ) → zs ≡ pre ++ (row x ++ post) → start + 7 * i ≡ length pre → at i ≡ x) where
-  rows-read : (pre post : List ℤ) (xs : List X) (i : ℕ) → zs ≡ pre ++ (flatMap row xs ++ post) → start + 7 * i ≡ length pre → map at (counting i (length xs)) ≡ xs
+module _ {X Y : Type 0} (row : X → List ℤ) (seven-long : (x : X) → length (row x) ≡ 7) (zs : List ℤ) (at : ℕ → Y) (is : X → Y) (start : ℕ)
+    (read : (pre post : List ℤ) (x : X) (i : ℕ) → zs ≡ pre ++ (row x ++ post) → start + 7 * i ≡ length pre → at i ≡ is x) where
+  rows-read : (pre post : List ℤ) (xs : List X) (i : ℕ) → zs ≡ pre ++ (flatMap row xs ++ post) → start + 7 * i ≡ length pre → map at (counting i (length xs)) ≡ map is xs
   unfolding flatMap
   rows-read pre post [] i whole begins = refl
   rows-read pre post (x ∷ xs) i whole begins =
@@ -87,20 +91,46 @@ edge-long : (b : OutlineEdge) → length (writtenEdge b) ≡ 7
 edge-long (Closed e) = refl
 edge-long (Held e g h) = refl
 
+-- ---- a plate, written
+module _ (m : Plate) where
+  head : List ℤ
+  head = pos (length (m .triangles)) ∷ pos (length (m .outline)) ∷ []
+
+  triangles-read : map (triangleAt (written m)) (counting 0 (length (m .triangles))) ≡ map (λ t. t) (m .triangles)
+  unfolding written head
+  triangles-read =
+      rows-read writtenTriangle (λ t. refl) (written m) (triangleAt (written m)) (λ t. t) 2 (λ pre post t i whole begins. ap (λ w. triangleAt w i) whole ∙ triangle-read pre post t i begins)
+      head (flatMap writtenEdge (m .outline)) (m .triangles) 0 refl refl
+
+  -- whatever is read of an outline edge
+  pub edges-read : {Y : Type 0} (at : List ℤ → ℕ → Y) (is : OutlineEdge → Y) →
+      ((pre post : List ℤ) (b : OutlineEdge) (i : ℕ) → outlineStart (pre ++ (writtenEdge b ++ post)) i ≡ length pre → at (pre ++ (writtenEdge b ++ post)) i ≡ is b) →
+      map (at (written m)) (counting 0 (length (m .outline))) ≡ map is (m .outline)
+  unfolding written head
+  edges-read at is read =
+      let zs = written m in
+      let F = flatMap writtenTriangle (m .triangles) in
+      let long = rows-long writtenTriangle (λ t. refl) (m .triangles) in
+      rows-read writtenEdge edge-long zs (at zs) is (2 + 7 * length (m .triangles))
+      (λ pre post b i whole begins. ap (λ w. at w i) whole ∙ read pre post b i (ap (λ w. outlineStart w i) (sym whole) ∙ (let start : outlineStart zs i ≡ length pre = omega arith in start)))
+      (head ++ F) [] (m .outline) 0 (ap (λ ys. head ++ (F ++ ys)) (sym (append-nil (flatMap writtenEdge (m .outline))))) (omega arith)
+
+  each-marked : (pre post : List ℤ) (b : OutlineEdge) (i : ℕ) → outlineStart (pre ++ (writtenEdge b ++ post)) i ≡ length pre → marked (pre ++ (writtenEdge b ++ post)) i ≡ true
+  unfolding marked
+  each-marked pre post (Closed e) i begins =
+      ap (λ kind. leZ (pos 0) kind && leZ kind (pos 1)) (there pre (writtenEdge (Closed e) ++ post) (outlineStart (pre ++ (writtenEdge (Closed e) ++ post)) i) 0 (omega arith))
+  each-marked pre post (Held e g h) i begins =
+      ap (λ kind. leZ (pos 0) kind && leZ kind (pos 1)) (there pre (writtenEdge (Held e g h) ++ post) (outlineStart (pre ++ (writtenEdge (Held e g h) ++ post)) i) 0 (omega arith))
+
+  pub all-marked : allMarked (written m) ≡ true
+  unfolding written
+  all-marked =
+      sym (every-map (λ t. t) (marked (written m)) (counting 0 (length (m .outline)))) ∙ ap (every (λ t. t)) (edges-read marked (λ b. true) each-marked) ∙ every-map (λ t. t) (λ b. true) (m .outline)
+      ∙ every-in (λ b. true) (m .outline) (λ b n. refl)
+
 pub read-as-written : ReadAsWritten
 unfolding written
 read-as-written m =
-    let ts = m .triangles in
-    let bs = m .outline in
-    let zs = written m in
-    let F = flatMap writtenTriangle ts in
-    let G = flatMap writtenEdge bs in
-    let head = pos (length ts) ∷ pos (length bs) ∷ [] in
-    let long = rows-long writtenTriangle (λ t. refl) ts in
-    let triangles : map (triangleAt zs) (counting 0 (length ts)) ≡ ts =
-          rows-read writtenTriangle (λ t. refl) zs (triangleAt zs) 2 (λ pre post t i whole begins. ap (λ w. triangleAt w i) whole ∙ triangle-read pre post t i begins) head G ts 0 refl refl in
-    let outline : map (outlineAt zs) (counting 0 (length bs)) ≡ bs =
-          rows-read writtenEdge edge-long zs (outlineAt zs) (2 + 7 * length ts)
-          (λ pre post b i whole begins. ap (λ w. outlineAt w i) whole ∙ outline-read pre post b i (ap (λ w. outlineStart w i) (sym whole) ∙ (let at : outlineStart zs i ≡ length pre = omega arith in at)))
-          (head ++ F) [] bs 0 (ap (λ ys. head ++ (F ++ ys)) (sym (append-nil G))) (omega arith) in
+    let triangles = triangles-read m ∙ map-id (m .triangles) in
+    let outline = edges-read m outlineAt (λ b. b) outline-read ∙ map-id (m .outline) in
     λ j. record { triangles = triangles j; outline = outline j }

@@ -1,6 +1,7 @@
 //! The theorems, each named in the contract of a function, so that a check asks for its proof.
 ghost use Rattle.rules.specs.Laws.{Cross, Squares, LocalLaw, PartsAlike, RoundedUp, ValuesListed};
 ghost use Rattle.rules.specs.Promises.{Below, FinerLawful, CarriedThere, FieldsCarried, StreamsCarried, HoweverFine, Printed, Between, PrintedCarried, Bracketed, PartedMeans, NotPartedMeans};
+ghost use Rattle.rules.specs.Calls.{ReadAsWritten, AnswersBracket, FinerTaken, CarriedTaken, CarriedFourTimes};
 ghost use Rattle.rules.specs.Table.{TableHolds};
 
 /// What a field spends and a stream drags in one triangle add up to at least their exchange along its edges.
@@ -89,6 +90,18 @@ pub fn parted_triangles_share_no_inner_point() -> u8
 /// Two proper triangles that are not parted have an inner point in common.
 pub fn not_parted_triangles_share_an_inner_point() -> u8
     ensures { λ _. ⌜ NotPartedMeans ⌝ }
+{
+    0
+}
+
+/// Of plates and values as rows of numbers: a plate is read as it was written, what `bounds` answers brackets, a finer plate and what
+/// is carried to it are taken by every call, and their numbers are four times as large.
+pub fn rows_of_numbers_keep_the_promise() -> u8
+    ensures read { λ _. ⌜ ReadAsWritten ⌝ }
+    ensures bracket { λ _. ⌜ AnswersBracket ⌝ }
+    ensures finer { λ _. ⌜ FinerTaken ⌝ }
+    ensures carried { λ _. ⌜ CarriedTaken ⌝ }
+    ensures four { λ _. ⌜ CarriedFourTimes ⌝ }
 {
     0
 }

@@ -1,0 +1,239 @@
+-- Plates and values as rows of numbers: what the calls answer is what the promises speak of. Assumes nothing.
+use mathlib.Core.Path.{_≡_, refl, sym, ap, subst, _∙_}
+use mathlib.Core.Bool.{Bool, true, false, cond, _&&_, not}
+use mathlib.Core.Logic.{_⊎_, inl, inr, ⊎-elim}
+use mathlib.Core.List.{List, [], _∷_, _++_, map, flatMap, List·Memᴰ, List·Memᴰ·head, List·Memᴰ·tail, Memᴰ·append-left, Memᴰ·append-right, Memᴰ·cast}
+use Prim.Native.Nat.{ℕ, zero, suc, _+_, _*_, _<_}
+use native.Mathlib.Omega.{arith}
+use borrow.Author.Differences.{ints}
+use lib.Dec.{eqb, ltb}
+use lib.IntN.{ℤ, pos, _+ℤ_, _*ℤ_}
+use lib.ListN.{length, getD, length-append, length-map}
+use Rattle.std.specs.shelf.Lists.{folded, leading}
+use Rattle.std.proofs.shelf.Tests.{and-parts, and-from, cases-bool, both-ways, cond-true, cond-false, cond-both, eqb-true, eq-eqb, lt-ltb, ltb-true}
+use Rattle.exact.specs.Lists.{every}
+use Rattle.exact.proofs.Members.{member-flatMap}
+use Rattle.rules.specs.declared.Point.{Point}
+use Rattle.rules.specs.declared.Triangle.{Triangle}
+use Rattle.rules.specs.Bounds.{upper, lower}
+use Rattle.rules.specs.Calls.{AnswersBracket, FinerTaken, CarriedTaken, CarriedFourTimes}
+use Rattle.rules.specs.Edges.{Corner, A, B, C, next, corner}
+use Rattle.rules.specs.Energy.{isField, isStream}
+use Rattle.rules.specs.Finer.{finer, Carried, carried, parts}
+use Rattle.rules.specs.Lawful.{lawful}
+use Rattle.rules.specs.Limits.{counts, allMarked, modestPlate}
+use Rattle.rules.specs.Numbers.{plateOf}
+use Rattle.rules.specs.Parts.{Part, atA, atB, atC, between, middle, twice, part}
+use Rattle.rules.specs.Plates.{Plate, Values, samePoint, placeOf, among, noted, cornersNoted, pointsOf, valuesAt, valuesOf}
+use Rattle.rules.specs.Verdicts.{_unless_, _orElse_, plateVerdict, fieldVerdict, streamVerdict, boundsVerdict, finerVerdict, carryVerdict, valuesVerdict, fills, givesField, givesStream, allNear}
+use Rattle.rules.specs.Within.{upperWithin, dragWithin}
+use Rattle.rules.specs.Written.{written, finerNumbers, carriedNumbers}
+use Rattle.theory.proofs.Carried.{fields-carried, streams-carried, printed-carried}
+use Rattle.theory.proofs.Carries.{carried-there}
+use Rattle.theory.proofs.Corners.{mid}
+use Rattle.theory.proofs.Finenesses.{bracketed}
+use Rattle.theory.proofs.FinerLawful.{finer-lawful}
+use Rattle.theory.proofs.Meetings.{corner-or-middle}
+use Rattle.theory.proofs.ReadBack.{read-as-written, all-marked}
+use Rattle.theory.proofs.Sameness.{point-is, samePoint-from}
+
+-- ---- a verdict of 0
+passed : (n : ℕ) (test : Bool) → 0 < n → n unless test ≡ 0 → test ≡ true
+passed n true above h = refl
+passed n false above h = absurd (omega arith)
+
+both-passed : (a b : ℕ) → a orElse b ≡ 0 → (a ≡ 0) × (b ≡ 0)
+both-passed a b h =
+    ⊎-elim (λ t. (eqb-true a 0 t, sym (cond-true (eqb a 0) b a t) ∙ h)) (λ f. absurd (both-ways (eqb a 0) f (eq-eqb a 0 (sym (cond-false (eqb a 0) b a f) ∙ h)))) (cases-bool (eqb a 0))
+
+both-pass : (a b : ℕ) → a ≡ 0 → b ≡ 0 → a orElse b ≡ 0
+both-pass a b h k = ap (λ n. n orElse b) h ∙ k
+
+passes : (n : ℕ) (test : Bool) → test ≡ true → n unless test ≡ 0
+passes n test h = ap (λ t. n unless t) h
+
+plate-passed : (zs : List ℤ) → plateVerdict zs ≡ 0 → lawful (plateOf zs) ≡ true
+unfolding plateVerdict
+plate-passed zs h =
+    let rest = both-passed (1 unless counts zs && allMarked zs) _ h .1 in
+    passed 3 (lawful (plateOf zs)) (omega arith) (both-passed (2 unless modestPlate (plateOf zs)) _ rest .1)
+
+field-passed : (zs us : List ℤ) → fieldVerdict zs us ≡ 0 → (plateVerdict zs ≡ 0) × (isField (valuesOf (plateOf zs) us) (plateOf zs) ≡ true)
+unfolding fieldVerdict givesField
+field-passed zs us h =
+    let both = both-passed (plateVerdict zs) (4 unless givesField (plateOf zs) us) h in
+    (both .0, and-parts (fills (plateOf zs) us) _ (passed 4 (givesField (plateOf zs) us) (omega arith) (both .1)) .1)
+
+stream-passed : (zs ss : List ℤ) → streamVerdict zs ss ≡ 0 → (plateVerdict zs ≡ 0) × (isStream (valuesOf (plateOf zs) ss) (plateOf zs) ≡ true)
+unfolding streamVerdict givesStream
+stream-passed zs ss h =
+    let both = both-passed (plateVerdict zs) (5 unless givesStream (plateOf zs) ss) h in
+    (both .0, and-parts (fills (plateOf zs) ss) _ (passed 5 (givesStream (plateOf zs) ss) (omega arith) (both .1)) .1)
+
+-- ---- the two numbers
+pub answers-bracket : AnswersBracket
+unfolding boundsVerdict streamVerdict
+answers-bracket zs us ss h =
+    let m = plateOf zs in
+    let first = both-passed (fieldVerdict zs us) _ h in
+    let field = field-passed zs us (first .0) in
+    let stream = stream-passed zs ss (both-pass (plateVerdict zs) _ (field .0) (both-passed (5 unless givesStream m ss) _ (first .1) .0)) in
+    bracketed m (plate-passed zs (field .0)) (valuesOf m us) (valuesOf m ss) (field .1) (stream .1)
+
+-- ---- values in the order of the points
+found-here : (q : Point) (ps : List Point) (f : Values) (p : Point) → samePoint p q ≡ true → valuesAt (q ∷ ps) (map f (q ∷ ps)) p ≡ f p
+found-here q ps f p t = ap (λ b. getD (map f (q ∷ ps)) (cond (not b) (1 + placeOf p ps) 0) (pos 0)) t ∙ ap f (sym (point-is p q t))
+
+found-later : (q : Point) (ps : List Point) (f : Values) (p : Point) → samePoint p q ≡ false → valuesAt (q ∷ ps) (map f (q ∷ ps)) p ≡ valuesAt ps (map f ps) p
+found-later q ps f p t =
+    let one : 1 + placeOf p ps ≡ suc (placeOf p ps) = omega arith in
+    ap (λ b. getD (map f (q ∷ ps)) (cond (not b) (1 + placeOf p ps) 0) (pos 0)) t ∙ ap (λ n. getD (map f (q ∷ ps)) n (pos 0)) one
+
+found : (ps : List Point) (f : Values) (p : Point) → List·Memᴰ p ps → valuesAt ps (map f ps) p ≡ f p
+found [] f p n = elim n [ ]
+found (q ∷ ps) f p (List·Memᴰ·head e) = found-here q ps f p (samePoint-from p q e)
+found (q ∷ ps) f p (List·Memᴰ·tail n) = ⊎-elim (found-here q ps f p) (λ t. found-later q ps f p t ∙ found ps f p n) (cases-bool (samePoint p q))
+
+-- ---- each corner is one of the points
+among-out : (p : Point) (ps : List Point) → among p ps ≡ true → List·Memᴰ p ps
+among-out p [] h = absurd (both-ways (among p []) refl h)
+among-out p (q ∷ ps) h =
+    ⊎-elim (λ t. List·Memᴰ·head (point-is p q t)) (λ t. List·Memᴰ·tail (among-out p ps (fewer t))) (cases-bool (samePoint p q))
+  where
+    fewer : samePoint p q ≡ false → among p ps ≡ true
+    fewer t =
+        let more = ap (λ b. cond (not b) (1 + placeOf p ps) 0) t in
+        let less = ltb-true (placeOf p (q ∷ ps)) (length (q ∷ ps)) h in
+        lt-ltb (placeOf p ps) (length ps) (omega arith)
+
+noted-keeps : (p q : Point) (ps : List Point) → List·Memᴰ p ps → List·Memᴰ p (noted ps q)
+unfolding noted
+noted-keeps p q ps n = cond-both (among q ps) ps (ps ++ q ∷ []) (List·Memᴰ p) (λ t. n) (λ f. Memᴰ·append-left (q ∷ []) n)
+
+noted-there : (q : Point) (ps : List Point) → List·Memᴰ q (noted ps q)
+unfolding noted
+noted-there q ps = cond-both (among q ps) ps (ps ++ q ∷ []) (List·Memᴰ q) (among-out q ps) (λ f. Memᴰ·append-right ps (List·Memᴰ·head refl))
+
+corners-kept : (p : Point) (ps : List Point) (t : Triangle) → List·Memᴰ p ps → List·Memᴰ p (cornersNoted ps t)
+corners-kept p ps t n = noted-keeps p (t .c) _ (noted-keeps p (t .b) _ (noted-keeps p (t .a) ps n))
+
+corner-noted : (ps : List Point) (t : Triangle) (i : Corner) → List·Memᴰ (corner t i) (cornersNoted ps t)
+corner-noted ps t A = noted-keeps (t .a) (t .c) _ (noted-keeps (t .a) (t .b) _ (noted-there (t .a) ps))
+corner-noted ps t B = noted-keeps (t .b) (t .c) _ (noted-there (t .b) _)
+corner-noted ps t C = noted-there (t .c) _
+
+points-kept : (p : Point) (ps : List Point) (ts : List Triangle) → List·Memᴰ p ps → List·Memᴰ p (folded cornersNoted ps ts)
+points-kept p ps [] n = n
+points-kept p ps (t ∷ ts) n = points-kept p (cornersNoted ps t) ts (corners-kept p ps t n)
+
+corner-listed : (ps : List Point) (ts : List Triangle) (t : Triangle) (i : Corner) → List·Memᴰ t ts → List·Memᴰ (corner t i) (folded cornersNoted ps ts)
+corner-listed ps [] t i n = elim n [ ]
+corner-listed ps (s ∷ ts) t i (List·Memᴰ·head e) = points-kept (corner t i) (cornersNoted ps s) ts (subst (λ r. List·Memᴰ (corner t i) (cornersNoted ps r)) e (corner-noted ps t i))
+corner-listed ps (s ∷ ts) t i (List·Memᴰ·tail n) = corner-listed (cornersNoted ps s) ts t i n
+
+-- ---- carried values, written in the order of the finer plate's points, are carried
+-- each of them is a corner of one of the parts
+corner-of-part : (t : Triangle) (l : Corner) → (p : Part) × List·Memᴰ (part p t) (parts t) × (twice (corner t l) ≡ corner (part p t) l)
+corner-of-part t A = (atA, List·Memᴰ·head refl, refl)
+corner-of-part t B = (atB, List·Memᴰ·tail (List·Memᴰ·head refl), refl)
+corner-of-part t C = (atC, List·Memᴰ·tail (List·Memᴰ·tail (List·Memᴰ·head refl)), refl)
+
+middle-of-part : (t : Triangle) (l : Corner) → (p : Part) × List·Memᴰ (part p t) (parts t) × (mid t l ≡ corner (part p t) l)
+middle-of-part t l = (between, List·Memᴰ·tail (List·Memᴰ·tail (List·Memᴰ·tail (List·Memᴰ·head refl))), same l)
+  where
+    same : (l : Corner) → mid t l ≡ corner (part between t) l
+    same A = refl
+    same B = refl
+    same C = refl
+
+middle-listed : (m : Plate) (t : Triangle) → List·Memᴰ t (m .triangles) → (i j : Corner) → List·Memᴰ (middle (corner t i) (corner t j)) (pointsOf (finer m .triangles))
+unfolding finer
+middle-listed m t n i j =
+    ⊎-elim (λ c. listed (c .0) (c .1 .place) (corner-of-part t (c .0))) (λ c. listed (c .0) (c .1 .place) (middle-of-part t (c .0))) (corner-or-middle (λ p. pos 0) t i j)
+  where
+    listed : {x : Point} (l : Corner) → middle (corner t i) (corner t j) ≡ x → (p : Part) × List·Memᴰ (part p t) (parts t) × (x ≡ corner (part p t) l) →
+        List·Memᴰ (middle (corner t i) (corner t j)) (pointsOf (flatMap parts (m .triangles)))
+    listed l e at =
+        Memᴰ·cast (e ∙ at .2) (corner-listed [] (flatMap parts (m .triangles)) (part (at .0) t) l (member-flatMap parts (m .triangles) t (part (at .0) t) n (at .1)))
+
+pub carried-written : (zs us : List ℤ) → lawful (plateOf zs) ≡ true → Carried (valuesOf (plateOf zs) us) (valuesOf (finer (plateOf zs)) (carriedNumbers zs us)) (plateOf zs)
+unfolding carriedNumbers
+carried-written zs us ok = record { sums = λ t n i j.
+    let m = plateOf zs in
+    let u = valuesOf m us in
+    found (pointsOf (finer m .triangles)) (carried u m) (middle (corner t i) (corner t j)) (middle-listed m t n i j) ∙ carried-there m ok u .sums t n i j }
+
+-- ---- the finer plate's numbers are read as the finer plate
+finer-read : (zs : List ℤ) → plateOf (finerNumbers zs) ≡ finer (plateOf zs)
+unfolding finerNumbers
+finer-read zs = read-as-written (finer (plateOf zs))
+
+pub carried-four-times : CarriedFourTimes
+carried-four-times zs us h =
+    let m = plateOf zs in
+    let ok = plate-passed zs h in
+    let u = valuesOf m us in
+    let cs = carriedNumbers zs us in
+    let four = printed-carried m ok u (valuesOf (finer m) cs) (carried-written zs us ok) in
+    (ap (λ n. pos (upper (valuesOf n cs) (n .triangles))) (finer-read zs) ∙ ap pos (four .0), ap (λ n. lower (valuesOf n cs) n) (finer-read zs) ∙ four .3)
+
+marked-written : (zs : List ℤ) → allMarked (finerNumbers zs) ≡ true
+unfolding finerNumbers
+marked-written zs = all-marked (finer (plateOf zs))
+
+pub finer-taken : FinerTaken
+unfolding finerVerdict plateVerdict
+finer-taken zs room h =
+    let ns = finerNumbers zs in
+    let m = plateOf zs in
+    let first = both-passed (plateVerdict zs) _ h in
+    let second = both-passed (7 unless eqb room (length ns)) _ (first .1) in
+    let third = both-passed (1 unless counts ns) (2 unless modestPlate (finer m)) (second .1) in
+    let marked : allMarked ns ≡ true = marked-written zs in
+    let modest : modestPlate (plateOf ns) ≡ true = ap modestPlate (finer-read zs) ∙ passed 2 (modestPlate (finer m)) (omega arith) (third .1) in
+    let ok : lawful (plateOf ns) ≡ true = ap lawful (finer-read zs) ∙ finer-lawful m (plate-passed zs (first .0)) in
+    both-pass (1 unless counts ns && allMarked ns) _ (passes 1 (counts ns && allMarked ns) (and-from (counts ns) (allMarked ns) (passed 1 (counts ns) (omega arith) (third .0)) marked))
+    (both-pass (2 unless modestPlate (plateOf ns)) _ (passes 2 (modestPlate (plateOf ns)) modest) (passes 3 (lawful (plateOf ns)) ok))
+
+carried-fill : (zs us : List ℤ) → allNear (carriedNumbers zs us) ≡ true → fills (plateOf (finerNumbers zs)) (carriedNumbers zs us) ≡ true
+unfolding fills carriedNumbers
+carried-fill zs us near =
+    let m = plateOf zs in
+    let cs = carriedNumbers zs us in
+    let long : length cs ≡ length (pointsOf (plateOf (finerNumbers zs) .triangles)) =
+          length-map (pointsOf (finer m .triangles)) (carried (valuesOf m us) m) ∙ ap (λ n. length (pointsOf (n .triangles))) (sym (finer-read zs)) in
+    and-from (eqb (length cs) (length (pointsOf (plateOf (finerNumbers zs) .triangles)))) (allNear cs) (eq-eqb _ _ long) near
+
+-- a test of values on the plate that the finer one's numbers are read as
+read-there : (test : Values → Plate → Bool) (zs cs : List ℤ) → test (valuesOf (finer (plateOf zs)) cs) (finer (plateOf zs)) ≡ true → test (valuesOf (plateOf (finerNumbers zs)) cs) (plateOf (finerNumbers zs)) ≡ true
+read-there test zs cs h = ap (λ n. test (valuesOf n cs) n) (finer-read zs) ∙ h
+
+field-taken : (zs us : List ℤ) → plateVerdict (finerNumbers zs) ≡ 0 → fieldVerdict zs us ≡ 0 → allNear (carriedNumbers zs us) ≡ true → fieldVerdict (finerNumbers zs) (carriedNumbers zs us) ≡ 0
+unfolding fieldVerdict givesField
+field-taken zs us plate h near =
+    let field = field-passed zs us h in
+    let ok = plate-passed zs (field .0) in
+    let is = fields-carried (plateOf zs) ok (valuesOf (plateOf zs) us) _ (carried-written zs us ok) (field .1) .0 in
+    both-pass (plateVerdict (finerNumbers zs)) _ plate
+    (passes 4 (givesField (plateOf (finerNumbers zs)) (carriedNumbers zs us)) (and-from (fills (plateOf (finerNumbers zs)) (carriedNumbers zs us)) _ (carried-fill zs us near) (read-there isField zs (carriedNumbers zs us) is)))
+
+stream-taken : (zs ss : List ℤ) → plateVerdict (finerNumbers zs) ≡ 0 → streamVerdict zs ss ≡ 0 → allNear (carriedNumbers zs ss) ≡ true → streamVerdict (finerNumbers zs) (carriedNumbers zs ss) ≡ 0
+unfolding streamVerdict givesStream
+stream-taken zs ss plate h near =
+    let stream = stream-passed zs ss h in
+    let ok = plate-passed zs (stream .0) in
+    let is = streams-carried (plateOf zs) ok (valuesOf (plateOf zs) ss) _ (carried-written zs ss ok) (stream .1) .0 in
+    both-pass (plateVerdict (finerNumbers zs)) _ plate
+    (passes 5 (givesStream (plateOf (finerNumbers zs)) (carriedNumbers zs ss)) (and-from (fills (plateOf (finerNumbers zs)) (carriedNumbers zs ss)) _ (carried-fill zs ss near) (read-there isStream zs (carriedNumbers zs ss) is)))
+
+pub carried-taken : CarriedTaken
+unfolding carryVerdict
+carried-taken zs us kind room room′ finer-given h =
+    let cs = carriedNumbers zs us in
+    let plate = finer-taken zs room finer-given in
+    let first = both-passed (1 unless ltb kind 2) _ h in
+    let second = both-passed (valuesVerdict kind zs us) _ (first .1) in
+    let near = passed (4 + kind) (allNear cs) (omega arith) (both-passed (7 unless eqb room′ (length cs)) _ (second .1) .1) in
+    ⊎-elim
+    (λ t. cond-true (eqb kind 0) _ _ t ∙ field-taken zs us plate (sym (cond-true (eqb kind 0) (fieldVerdict zs us) (streamVerdict zs us) t) ∙ second .0) near)
+    (λ f. cond-false (eqb kind 0) _ _ f ∙ stream-taken zs us plate (sym (cond-false (eqb kind 0) (fieldVerdict zs us) (streamVerdict zs us) f) ∙ second .0) near) (cases-bool (eqb kind 0))
