@@ -69,16 +69,21 @@ PrintedCarried =
     (upper v (finer m .triangles) ≡ 4 * upper u (m .triangles)) × (upDrag v (finer m .triangles) ≡ 4 * upDrag u (m .triangles)) ×
     (work v (finer m .outline) ≡ pos 4 *ℤ work u (m .outline)) × (lower v (finer m) ≡ pos 4 *ℤ lower u m)
 
--- low and high bracket the heat that goes through the plate m: at every fineness each field spends at least low, and each stream says at
--- most high, to scale
-pub record Brackets (m : Plate) (low high : ℤ) : Type 0 where
-  pub fields : (n : ℕ) (u : Values) → isField u (finest n m) ≡ true → whole (scale n *ℤ low) ≤F spent u (finest n m .triangles)
-  pub streams : (n : ℕ) (s : Values) → isStream s (finest n m) ≡ true → says s (finest n m) ≤F whole (scale n *ℤ high)
+-- low and high, found when the plate m was i times finer, bracket the heat that goes through it: at every fineness n each field spends at
+-- least low, and each stream says at most high, to scale
+pub record BracketsAt (i : ℕ) (m : Plate) (low high : ℤ) : Type 0 where
+  pub fields : (n : ℕ) (u : Values) → isField u (finest n m) ≡ true → whole (scale n *ℤ low) ≤F scaled (scale i) (spent u (finest n m .triangles))
+  pub streams : (n : ℕ) (s : Values) → isStream s (finest n m) ≡ true → scaled (scale i) (says s (finest n m)) ≤F whole (scale n *ℤ high)
 
--- THE PRINTED NUMBERS of any field and any stream BRACKET
+-- found on the plate itself
+abbrev pub Brackets : Plate → ℤ → ℤ → Type 0
+Brackets m low high = BracketsAt 0 m low high
+
+-- THE PRINTED NUMBERS of any field and any stream, at any fineness, BRACKET
 abbrev pub Bracketed : Type 0
 Bracketed =
-    (m : Plate) → lawful m ≡ true → (u s : Values) → isField u m ≡ true → isStream s m ≡ true → Brackets m (lower s m) (pos (upper u (m .triangles)))
+    (m : Plate) → lawful m ≡ true → (i : ℕ) (u s : Values) → isField u (finest i m) ≡ true → isStream s (finest i m) ≡ true →
+    BracketsAt i m (lower s (finest i m)) (pos (upper u (finest i m .triangles)))
 
 -- ---- what it means to be parted
 -- z lies strictly inside t, coordinates of z being N times as fine: to the left of each edge

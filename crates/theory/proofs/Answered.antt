@@ -19,7 +19,7 @@ use Rattle.rules.specs.Bounds.{upper, lower}
 use Rattle.rules.specs.Calls.{AnswersBracket, FinerTaken, CarriedTaken, CarriedFourTimes}
 use Rattle.rules.specs.Edges.{Corner, A, B, C, next, corner}
 use Rattle.rules.specs.Energy.{isField, isStream}
-use Rattle.rules.specs.Finer.{finer, Carried, carried, parts}
+use Rattle.rules.specs.Finer.{finer, finest, Carried, carried, parts}
 use Rattle.rules.specs.Lawful.{lawful}
 use Rattle.rules.specs.Limits.{counts, allMarked, modestPlate}
 use Rattle.rules.specs.Numbers.{plateOf}
@@ -72,13 +72,13 @@ stream-passed zs ss h =
 
 -- ---- the two numbers
 pub answers-bracket : AnswersBracket
-unfolding boundsVerdict streamVerdict
+unfolding boundsVerdict streamVerdict finest
 answers-bracket zs us ss h =
     let m = plateOf zs in
     let first = both-passed (fieldVerdict zs us) _ h in
     let field = field-passed zs us (first .0) in
     let stream = stream-passed zs ss (both-pass (plateVerdict zs) _ (field .0) (both-passed (5 unless givesStream m ss) _ (first .1) .0)) in
-    bracketed m (plate-passed zs (field .0)) (valuesOf m us) (valuesOf m ss) (field .1) (stream .1)
+    bracketed m (plate-passed zs (field .0)) 0 (valuesOf m us) (valuesOf m ss) (field .1) (stream .1)
 
 -- ---- values in the order of the points
 found-here : (q : Point) (ps : List Point) (f : Values) (p : Point) → samePoint p q ≡ true → valuesAt (q ∷ ps) (map f (q ∷ ps)) p ≡ f p

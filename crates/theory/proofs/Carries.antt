@@ -15,7 +15,7 @@ use Rattle.rules.specs.Parts.{middle}
 use Rattle.rules.specs.Plates.{Plate, PointValue, Values, samePoint}
 use Rattle.rules.specs.Promises.{CarriedThere}
 use Rattle.theory.proofs.Facts.{Facts, facts}
-use Rattle.theory.proofs.Meetings.{In, Spot, corner-or-middle, no-middle, same-middle}
+use Rattle.theory.proofs.Meetings.{In, SameSum, corner-or-middle, no-middle, same-middle}
 use Rattle.theory.proofs.Pieces.{twice-is}
 use Rattle.theory.proofs.Sameness.{point-is, samePoint-from, samePoint-not}
 
@@ -56,12 +56,12 @@ module _ (m : Plate) (known : Facts m) (u : Values) where
       ⊎-elim (λ c. ⊎-elim (λ d. corners (c .0) (d .0) (c .1) (d .1)) (λ d. absurd (no-middle m known s t (c .0) (d .0) ns nt (sym (c .1 .place) ∙ e ∙ d .1 .place))) (corner-or-middle u t i j))
       (λ c. ⊎-elim (λ d. absurd (no-middle m known t s (d .0) (c .0) nt ns (sym (d .1 .place) ∙ sym e ∙ c .1 .place))) (λ d. middles (c .0) (d .0) (c .1) (d .1)) (corner-or-middle u t i j)) (corner-or-middle u s a b)
     where
-      corners : (k l : Corner) → Spot u s a b k k → Spot u t i j l l → u (corner s a) +ℤ u (corner s b) ≡ u (corner t i) +ℤ u (corner t j)
+      corners : (k l : Corner) → SameSum u s a b k k → SameSum u t i j l l → u (corner s a) +ℤ u (corner s b) ≡ u (corner t i) +ℤ u (corner t j)
       corners k l x y =
           let one = ap u (twice-is (corner s k) (corner t l) (sym (x .place) ∙ e ∙ y .place)) in
           x .sum ∙ ap₂ _+ℤ_ one one ∙ sym (y .sum)
 
-      middles : (k l : Corner) → Spot u s a b k (next k) → Spot u t i j l (next l) → u (corner s a) +ℤ u (corner s b) ≡ u (corner t i) +ℤ u (corner t j)
+      middles : (k l : Corner) → SameSum u s a b k (next k) → SameSum u t i j l (next l) → u (corner s a) +ℤ u (corner s b) ≡ u (corner t i) +ℤ u (corner t j)
       middles k l x y =
           let along : Edge → ℤ = λ f. u (f .from) +ℤ u (f .to) in
           x .sum ∙ ⊎-elim (λ f. sym (ap along f)) (λ f. sym (ap along f ∙ +ℤ-comm (u (corner s (next k))) (u (corner s k)))) (same-middle m known s t k l ns nt (sym (x .place) ∙ e ∙ y .place)) ∙ sym (y .sum)
@@ -71,7 +71,7 @@ module _ (m : Plate) (known : Facts m) (u : Values) where
   carried-sums t nt i j =
       ⊎-elim (λ c. found (c .0) (c .0) (c .1) (corner-sum u t (c .0))) (λ c. found (c .0) (next (c .0)) (c .1) (middle-sum u t (c .0))) (corner-or-middle u t i j)
     where
-      found : (k l : Corner) → Spot u t i j k l → List·Memᴰ (sumAt u t k l) (sumsIn u t) → firstAt (flatMap (sumsIn u) (m .triangles)) (middle (corner t i) (corner t j)) ≡ u (corner t i) +ℤ u (corner t j)
+      found : (k l : Corner) → SameSum u t i j k l → List·Memᴰ (sumAt u t k l) (sumsIn u t) → firstAt (flatMap (sumsIn u) (m .triangles)) (middle (corner t i) (corner t j)) ≡ u (corner t i) +ℤ u (corner t j)
       found k l x n =
           first-is (flatMap (sumsIn u) (m .triangles)) (middle (corner t i) (corner t j)) (u (corner t i) +ℤ u (corner t j)) (sumAt u t k l) (member-flatMap (sumsIn u) (m .triangles) t (sumAt u t k l) nt n) (sym (x .place)) (λ r nr at.
             let s = flatMap-member (sumsIn u) (m .triangles) r nr in

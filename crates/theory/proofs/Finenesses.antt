@@ -113,9 +113,12 @@ between m ok i j u s field stream =
     (≤F-trans said spends (whole high) (spent-den (finest i m) ok-i u) (compared m ok i j u s field stream) (printed-high j (finest i m) ok-i u)))
 
 pub bracketed : Bracketed
-unfolding finest
-bracketed m ok u s field stream = record {
-    fields = λ n w is. ≤F-trans (whole (scale n *ℤ lower s m)) (scaled (scale n) (says s m)) (spent w (finest n m .triangles)) (says-den m ok s)
-    (printed-low n m ok s) (however-fine m ok s stream n w is);
-    streams = λ n r is. ≤F-trans (says r (finest n m)) (scaled (scale n) (spent u (m .triangles))) (whole (scale n *ℤ pos (upper u (m .triangles)))) (spent-den m ok u)
-    (subst (λ p. p ≤F scaled (scale n) (spent u (m .triangles))) (scaled-one (says r (finest n m))) (compared m ok 0 n u r field is)) (printed-high n m ok u) }
+bracketed m ok i u s field stream =
+    let ok-i = lawful-finest i m ok in
+    let mi = finest i m in
+    record {
+      fields = λ n w is. ≤F-trans (whole (scale n *ℤ lower s mi)) (scaled (scale n) (says s mi)) (scaled (scale i) (spent w (finest n m .triangles))) (says-den mi ok-i s)
+        (printed-low n mi ok-i s) (compared m ok n i w s is stream);
+      streams = λ n r is. ≤F-trans (scaled (scale i) (says r (finest n m))) (scaled (scale n) (spent u (mi .triangles))) (whole (scale n *ℤ pos (upper u (mi .triangles)))) (spent-den mi ok-i u)
+        (compared m ok i n u r field is) (printed-high n mi ok-i u)
+    }

@@ -123,11 +123,11 @@ neighbours C B = inr (inr refl)
 neighbours C C = inl refl
 
 -- a sum of two corners is a corner doubled, or a middle; and values, summed in the same way, are those there
-pub record Spot (u : Values) (t : Triangle) (i j : Corner) (k l : Corner) : Type 0 where
+pub record SameSum (u : Values) (t : Triangle) (i j : Corner) (k l : Corner) : Type 0 where
   pub place : middle (corner t i) (corner t j) ≡ middle (corner t k) (corner t l)
   pub sum : u (corner t i) +ℤ u (corner t j) ≡ u (corner t k) +ℤ u (corner t l)
 
-pub corner-or-middle : (u : Values) (t : Triangle) (i j : Corner) → ((l : Corner) × Spot u t i j l l) ⊎ ((l : Corner) × Spot u t i j l (next l))
+pub corner-or-middle : (u : Values) (t : Triangle) (i j : Corner) → ((l : Corner) × SameSum u t i j l l) ⊎ ((l : Corner) × SameSum u t i j l (next l))
 corner-or-middle u t i j =
     ⊎-elim (λ e. inl (i, record { place = ap (λ l. middle (corner t i) (corner t l)) e; sum = ap (λ l. u (corner t i) +ℤ u (corner t l)) e }))
     (λ n. inr (⊎-elim (λ e. (i, record { place = ap (λ l. middle (corner t i) (corner t l)) e; sum = ap (λ l. u (corner t i) +ℤ u (corner t l)) e }))
@@ -183,10 +183,10 @@ module _ (m : Plate) (known : Facts m) where
       x : Point
       x = middle (corner t a) (corner t b)
 
-      corners : ((l : Corner) × Spot (λ p. pos 0) t a b l l) → x ≡ mid s i
+      corners : ((l : Corner) × SameSum (λ p. pos 0) t a b l l) → x ≡ mid s i
       corners c = absurd (free s t i (c .0) ns nt (inside-doubled (edge s i) (corner t (c .0)) (subst (Inside (doubled (edge s i))) (c .1 .place) at)))
 
-      middles : ((l : Corner) × Spot (λ p. pos 0) t a b l (next l)) → x ≡ mid s i
+      middles : ((l : Corner) × SameSum (λ p. pos 0) t a b l (next l)) → x ≡ mid s i
       middles c = c .1 .place ∙ middle-of s t i (c .0) (inside-middle s t i (c .0) ns nt (subst (Inside (doubled (edge s i))) (c .1 .place) at))
 
   pub half1-clear : (s t : Triangle) (i a b : Corner) → In s → In t → Inside (half1 (edge s i)) (middle (corner t a) (corner t b)) → ⊥
