@@ -30,9 +30,13 @@ mixed p q p′ q′ hp hq′ left =
     by-ltZ (pos 0) q (λ hq. alone p q p′ q′ hp hq) (λ lq.
     by-ltZ (pos 0) p′ (λ hp′. other hp′) (λ lp′.
     record {
-      a = q′ -ℤ p′; b = p -ℤ q; a-least = omega (arith, ints); b-least = omega (arith, ints); some = omega (arith, ints);
+      a = q′ -ℤ p′;
+      b = p -ℤ q;
+      a-least = omega (arith, ints);
+      b-least = omega (arith, ints);
+      some = omega (arith, ints);
       first = subst (λ z. pos 0 <ℤ z) (sym first-is) difference;
-      second = subst (λ z. pos 0 <ℤ z) (sym second-is) difference
+      second = subst (λ z. pos 0 <ℤ z) (sym second-is) difference;
     }))
   where
     other : pos 0 <ℤ p′ → Mix p q p′ q′

@@ -1,7 +1,7 @@
 -- Corners and edges of a triangle, directions, and where a point lies by them. Assumes nothing.
 use mathlib.Core.Bool.{Bool, _&&_}
 use mathlib.Core.List.{List, [], _∷_}
-use lib.IntN.{ℤ, pos, _+ℤ_, _-ℤ_, _*ℤ_}
+use lib.IntN.{ℤ, _+ℤ_, _-ℤ_, _*ℤ_}
 use lib.Signed.{ltZ}
 use Rattle.rules.specs.declared.Point.{Point}
 use Rattle.rules.specs.declared.Edge.{Edge}

@@ -1,11 +1,10 @@
 -- What is promised of every lawful plate. Each promise is a type; a proof of it is the theorem. Assumes nothing.
 use mathlib.Core.Path.{_≡_}
 use mathlib.Core.Bool.{true, false}
-use mathlib.Core.List.{List}
 use Prim.Native.Nat.{ℕ, _*_, _^_, _<_}
 use lib.IntN.{ℤ, pos, _*ℤ_}
 use lib.Signed.{_≤ℤ_, _<ℤ_}
-use Rattle.exact.specs.Fractions.{Fraction, whole, scaled, _≤F_, _≈F_}
+use Rattle.exact.specs.Fractions.{whole, scaled, _≤F_, _≈F_}
 use Rattle.rules.specs.declared.Point.{Point}
 use Rattle.rules.specs.declared.Triangle.{Triangle}
 use Rattle.rules.specs.Bounds.{upper, upDrag, work, lower}

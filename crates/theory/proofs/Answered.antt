@@ -1,23 +1,21 @@
 -- Plates and values as rows of numbers: what the calls answer is what the promises speak of. Assumes nothing.
 use mathlib.Core.Path.{_≡_, refl, sym, ap, subst, _∙_}
 use mathlib.Core.Bool.{Bool, true, false, cond, _&&_, not}
-use mathlib.Core.Logic.{_⊎_, inl, inr, ⊎-elim}
+use mathlib.Core.Logic.{⊎-elim}
 use mathlib.Core.List.{List, [], _∷_, _++_, map, flatMap, List·Memᴰ, List·Memᴰ·head, List·Memᴰ·tail, Memᴰ·append-left, Memᴰ·append-right, Memᴰ·cast}
-use Prim.Native.Nat.{ℕ, zero, suc, _+_, _*_, _<_}
+use Prim.Native.Nat.{ℕ, suc, _+_, _<_}
 use native.Mathlib.Omega.{arith}
-use borrow.Author.Differences.{ints}
 use lib.Dec.{eqb, ltb}
-use lib.IntN.{ℤ, pos, _+ℤ_, _*ℤ_}
-use lib.ListN.{length, getD, length-append, length-map}
-use Rattle.std.specs.shelf.Lists.{folded, leading}
+use lib.IntN.{ℤ, pos}
+use lib.ListN.{length, getD, length-map}
+use Rattle.std.specs.shelf.Lists.{folded}
 use Rattle.std.proofs.shelf.Tests.{and-parts, and-from, cases-bool, both-ways, cond-true, cond-false, cond-both, eqb-true, eq-eqb, lt-ltb, ltb-true}
-use Rattle.exact.specs.Lists.{every}
 use Rattle.exact.proofs.Members.{member-flatMap}
 use Rattle.rules.specs.declared.Point.{Point}
 use Rattle.rules.specs.declared.Triangle.{Triangle}
 use Rattle.rules.specs.Bounds.{upper, lower}
 use Rattle.rules.specs.Calls.{AnswersBracket, FinerTaken, CarriedTaken, CarriedFourTimes}
-use Rattle.rules.specs.Edges.{Corner, A, B, C, next, corner}
+use Rattle.rules.specs.Edges.{Corner, A, B, C, corner}
 use Rattle.rules.specs.Energy.{isField, isStream}
 use Rattle.rules.specs.Finer.{finer, finest, Carried, carried, parts}
 use Rattle.rules.specs.Lawful.{lawful}
@@ -26,8 +24,7 @@ use Rattle.rules.specs.Numbers.{plateOf}
 use Rattle.rules.specs.Parts.{Part, atA, atB, atC, between, middle, twice, part}
 use Rattle.rules.specs.Plates.{Plate, Values, samePoint, placeOf, among, noted, cornersNoted, pointsOf, valuesAt, valuesOf}
 use Rattle.rules.specs.Verdicts.{_unless_, _orElse_, plateVerdict, fieldVerdict, streamVerdict, boundsVerdict, finerVerdict, carryVerdict, valuesVerdict, fills, givesField, givesStream, allNear}
-use Rattle.rules.specs.Within.{upperWithin, dragWithin}
-use Rattle.rules.specs.Written.{written, finerNumbers, carriedNumbers}
+use Rattle.rules.specs.Written.{finerNumbers, carriedNumbers}
 use Rattle.theory.proofs.Carried.{fields-carried, streams-carried, printed-carried}
 use Rattle.theory.proofs.Carries.{carried-there}
 use Rattle.theory.proofs.Corners.{mid}
@@ -158,10 +155,12 @@ middle-listed m t n i j =
 
 pub carried-written : (zs us : List ℤ) → lawful (plateOf zs) ≡ true → Carried (valuesOf (plateOf zs) us) (valuesOf (finer (plateOf zs)) (carriedNumbers zs us)) (plateOf zs)
 unfolding carriedNumbers
-carried-written zs us ok = record { sums = λ t n i j.
-    let m = plateOf zs in
-    let u = valuesOf m us in
-    found (pointsOf (finer m .triangles)) (carried u m) (middle (corner t i) (corner t j)) (middle-listed m t n i j) ∙ carried-there m ok u .sums t n i j }
+carried-written zs us ok = record {
+  sums = λ t n i j.
+      let m = plateOf zs in
+      let u = valuesOf m us in
+      found (pointsOf (finer m .triangles)) (carried u m) (middle (corner t i) (corner t j)) (middle-listed m t n i j) ∙ carried-there m ok u .sums t n i j;
+}
 
 -- ---- the finer plate's numbers are read as the finer plate
 finer-read : (zs : List ℤ) → plateOf (finerNumbers zs) ≡ finer (plateOf zs)
@@ -201,7 +200,7 @@ carried-fill zs us near =
     let m = plateOf zs in
     let cs = carriedNumbers zs us in
     let long : length cs ≡ length (pointsOf (plateOf (finerNumbers zs) .triangles)) =
-          length-map (pointsOf (finer m .triangles)) (carried (valuesOf m us) m) ∙ ap (λ n. length (pointsOf (n .triangles))) (sym (finer-read zs)) in
+    length-map (pointsOf (finer m .triangles)) (carried (valuesOf m us) m) ∙ ap (λ n. length (pointsOf (n .triangles))) (sym (finer-read zs)) in
     and-from (eqb (length cs) (length (pointsOf (plateOf (finerNumbers zs) .triangles)))) (allNear cs) (eq-eqb _ _ long) near
 
 -- a test of values on the plate that the finer one's numbers are read as

@@ -27,29 +27,28 @@ module _ (x y x′ y′ x″ y″ : ℤ) (turn : pos 0 <ℤ (((x′ -ℤ x) *ℤ
   no-fall h k m =
       by-ltZ y′ y
       (λ falls. absurd (never (prove≤ numbers ((con (pos 1) ≼ Turn) ∷ (var 2 ≼ var 0) ∷ (var 4 ≼ var 0) ∷ (var 1 ≼ var 5) ∷ ((con (pos 1) ⊕ var 3) ≼ var 1) ∷ [])
-        (hyp 0 ⊞ (hyp 1 ⊠ hyp 3) ⊞ ((hyp 4 ⊞ lit 1) ⊠ hyp 2)) (con (pos 1)) (con (pos 0)) tt (one-more turn, (h, (k, (m, (one-more falls, tt))))))))
+      (hyp 0 ⊞ (hyp 1 ⊠ hyp 3) ⊞ ((hyp 4 ⊞ lit 1) ⊠ hyp 2)) (con (pos 1)) (con (pos 0)) tt (one-more turn, (h, (k, (m, (one-more falls, tt))))))))
       (λ rises. rises)
 
   no-return : x′ ≤ℤ x → y ≤ℤ y′ → y′ ≤ℤ y″ → x″ ≤ℤ x′
   no-return h k m =
       by-ltZ x′ x″
       (λ returns. absurd (never (prove≤ numbers ((con (pos 1) ≼ Turn) ∷ (var 2 ≼ var 0) ∷ (var 1 ≼ var 3) ∷ (var 3 ≼ var 5) ∷ ((con (pos 1) ⊕ var 2) ≼ var 4) ∷ [])
-        (hyp 0 ⊞ (hyp 1 ⊠ hyp 3) ⊞ (hyp 2 ⊠ (hyp 4 ⊞ lit 1))) (con (pos 1)) (con (pos 0)) tt (one-more turn, (h, (k, (m, (one-more returns, tt))))))))
+      (hyp 0 ⊞ (hyp 1 ⊠ hyp 3) ⊞ (hyp 2 ⊠ (hyp 4 ⊞ lit 1))) (con (pos 1)) (con (pos 0)) tt (one-more turn, (h, (k, (m, (one-more returns, tt))))))))
       (λ goes-on. goes-on)
 
 not-below : (x y x′ y′ : ℤ) → pos 0 <ℤ x → x′ ≤ℤ pos 0 → y′ ≤ℤ pos 0 → (y *ℤ x′) <ℤ (x *ℤ y′) → pos 0 <ℤ y
 not-below x y x′ y′ hx hx′ hy′ h =
     by-ltZ (pos 0) y (λ above. above)
     (λ low. absurd (never (prove≤ (x ∷ y ∷ x′ ∷ y′ ∷ [])
-      ((con (pos 1) ≼ var 0) ∷ (var 2 ≼ con (pos 0)) ∷ (var 3 ≼ con (pos 0)) ∷ ((con (pos 1) ⊕ (var 1 ⊗ var 2)) ≼ (var 0 ⊗ var 3)) ∷ (var 1 ≼ con (pos 0)) ∷ [])
-      (hyp 3 ⊞ ((hyp 0 ⊞ lit 1) ⊠ hyp 2) ⊞ (hyp 4 ⊠ hyp 1)) (con (pos 1)) (con (pos 0)) tt (one-more hx, (hx′, (hy′, (one-more h, (low, tt))))))))
+    ((con (pos 1) ≼ var 0) ∷ (var 2 ≼ con (pos 0)) ∷ (var 3 ≼ con (pos 0)) ∷ ((con (pos 1) ⊕ (var 1 ⊗ var 2)) ≼ (var 0 ⊗ var 3)) ∷ (var 1 ≼ con (pos 0)) ∷ [])
+    (hyp 3 ⊞ ((hyp 0 ⊞ lit 1) ⊠ hyp 2) ⊞ (hyp 4 ⊠ hyp 1)) (con (pos 1)) (con (pos 0)) tt (one-more hx, (hx′, (hy′, (one-more h, (low, tt))))))))
 
 -- ---- two rows. The corners (f i, g i) go against the clock; an edge that goes to the left and up has 0 on its left; and each row is
 -- above 0 somewhere. Then two corners can be mixed.
 module _ (f g : Corner → ℤ)
     (turns : (j : Corner) → pos 0 <ℤ (((f (next j) -ℤ f j) *ℤ (g (prev j) -ℤ g j)) -ℤ ((g (next j) -ℤ g j) *ℤ (f (prev j) -ℤ f j))))
     (left : (j : Corner) → f (next j) ≤ℤ f j → g j ≤ℤ g (next j) → (g j *ℤ f (next j)) <ℤ (f j *ℤ g (next j))) where
-
   abbrev Two : Type 0
   Two = (u : Corner) × (v : Corner) × Mix (f u) (g u) (f v) (g v)
 

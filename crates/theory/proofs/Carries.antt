@@ -1,23 +1,22 @@
 -- Whatever stands at the points of a lawful plate can be carried to the finer one: no place is given two values. Assumes nothing.
-use mathlib.Core.Path.{_≡_, refl, sym, ap, ap₂, subst, _∙_}
-use mathlib.Core.Bool.{Bool, true, false, cond}
-use mathlib.Core.Logic.{_⊎_, inl, inr, ⊎-elim}
+use mathlib.Core.Path.{_≡_, refl, sym, ap, ap₂, _∙_}
+use mathlib.Core.Logic.{⊎-elim}
 use mathlib.Core.List.{List, [], _∷_, flatMap, List·Memᴰ, List·Memᴰ·head, List·Memᴰ·tail}
-use lib.IntN.{ℤ, pos, _+ℤ_, +ℤ-comm}
+use lib.IntN.{ℤ, _+ℤ_, +ℤ-comm}
 use Rattle.std.proofs.shelf.Tests.{cases-bool, cond-true, cond-false}
 use Rattle.exact.proofs.Members.{flatMap-member, member-flatMap}
 use Rattle.rules.specs.declared.Point.{Point}
 use Rattle.rules.specs.declared.Edge.{Edge}
 use Rattle.rules.specs.declared.Triangle.{Triangle}
-use Rattle.rules.specs.Edges.{Corner, A, B, C, next, corner, edge, back}
-use Rattle.rules.specs.Finer.{Carried, sumAt, sumsIn, firstAt, carried}
+use Rattle.rules.specs.Edges.{Corner, A, B, C, next, corner}
+use Rattle.rules.specs.Finer.{sumAt, sumsIn, firstAt, carried}
 use Rattle.rules.specs.Parts.{middle}
 use Rattle.rules.specs.Plates.{Plate, PointValue, Values, samePoint}
 use Rattle.rules.specs.Promises.{CarriedThere}
 use Rattle.theory.proofs.Facts.{Facts, facts}
 use Rattle.theory.proofs.Meetings.{In, SameSum, corner-or-middle, no-middle, same-middle}
 use Rattle.theory.proofs.Pieces.{twice-is}
-use Rattle.theory.proofs.Sameness.{point-is, samePoint-from, samePoint-not}
+use Rattle.theory.proofs.Sameness.{point-is, samePoint-from}
 
 -- ---- the first of several that agree
 first-is : (ps : List PointValue) (q : Point) (v : ℤ) (p : PointValue) → List·Memᴰ p ps → p .at ≡ q → ((r : PointValue) → List·Memᴰ r ps → r .at ≡ q → r .value ≡ v) → firstAt ps q ≡ v
@@ -74,9 +73,9 @@ module _ (m : Plate) (known : Facts m) (u : Values) where
       found : (k l : Corner) → SameSum u t i j k l → List·Memᴰ (sumAt u t k l) (sumsIn u t) → firstAt (flatMap (sumsIn u) (m .triangles)) (middle (corner t i) (corner t j)) ≡ u (corner t i) +ℤ u (corner t j)
       found k l x n =
           first-is (flatMap (sumsIn u) (m .triangles)) (middle (corner t i) (corner t j)) (u (corner t i) +ℤ u (corner t j)) (sumAt u t k l) (member-flatMap (sumsIn u) (m .triangles) t (sumAt u t k l) nt n) (sym (x .place)) (λ r nr at.
-            let s = flatMap-member (sumsIn u) (m .triangles) r nr in
-            let which = sum-out u (s .0) r (s .2) in
-            ap (λ p. p .value) (which .2) ∙ sums-agree (s .0) t (which .0) (which .1) i j (s .1) nt (sym (ap (λ p. p .at) (which .2)) ∙ at))
+          let s = flatMap-member (sumsIn u) (m .triangles) r nr in
+          let which = sum-out u (s .0) r (s .2) in
+          ap (λ p. p .value) (which .2) ∙ sums-agree (s .0) t (which .0) (which .1) i j (s .1) nt (sym (ap (λ p. p .at) (which .2)) ∙ at))
 
 pub carried-there : CarriedThere
 carried-there m ok u = record { sums = carried-sums m (facts m ok) u }

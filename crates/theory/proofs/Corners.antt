@@ -1,25 +1,23 @@
 -- Corners and middles of a proper triangle: how high they lie above its edges, and that no two are one. Assumes nothing.
 use mathlib.Core.Path.{_≡_, refl, sym, ap, subst, _∙_}
-use mathlib.Core.Bool.{true, _&&_}
-use mathlib.Core.Logic.{_⊎_, inl, inr, ⊎-elim}
+use mathlib.Core.Bool.{true}
 use mathlib.Core.List.{List, [], _∷_}
 use Prim.Native.Nat.{ℕ}
 use native.Mathlib.Omega.{arith}
 use borrow.Author.Differences.{ints}
 use lib.Dec.{ltb}
-use lib.IntN.{ℤ, pos, negℤ, _+ℤ_, _-ℤ_, _*ℤ_, +ℤ-comm}
-use lib.Signed.{_≤ℤ_, _<ℤ_, ltZ}
+use lib.IntN.{ℤ, pos, _+ℤ_, _*ℤ_, +ℤ-comm}
+use lib.Signed.{_<ℤ_, ltZ}
 use Rattle.std.proofs.shelf.Signed.{by-ltZ}
 use Rattle.std.proofs.shelf.Tests.{and-parts}
-use Rattle.exact.proofs.Certificates.{_≼_, _≈_, hyp, lit, sqr, off, _⊞_, _⊠_, prove≤, prove≡}
+use Rattle.exact.proofs.Certificates.{_≼_, _≈_, hyp, sqr, _⊞_, _⊠_, prove≤, prove≡}
 use Rattle.exact.proofs.Order.{one-more}
-use Rattle.exact.proofs.Ring.{Expr, var, con, _⊕_, _⊗_, _⊝_, ⊖_, solve}
+use Rattle.exact.proofs.Ring.{Expr, con, _⊕_, _⊗_, _⊝_, ⊖_, solve}
 use Rattle.rules.specs.declared.Point.{Point}
-use Rattle.rules.specs.declared.Edge.{Edge}
 use Rattle.rules.specs.declared.Triangle.{Triangle}
 use Rattle.rules.specs.declared.Vector.{Vector}
-use Rattle.rules.specs.Edges.{Corner, A, B, C, next, corner, edge, direction, vector, across, along}
-use Rattle.rules.specs.Parts.{middle, twice}
+use Rattle.rules.specs.Edges.{Corner, A, B, C, next, corner, edge, direction, vector, across}
+use Rattle.rules.specs.Parts.{middle}
 use Rattle.rules.specs.Triangles.{area2, proper}
 use Rattle.theory.proofs.Plane.{Pair, pair, Across, Along, To, Straight, factor-out, never}
 
@@ -130,7 +128,7 @@ spread p q r k above =
     let d = vector p q in
     by-ltZ (pos 0) ((d .x *ℤ d .x) +ℤ (d .y *ℤ d .y)) (λ straight. straight)
     (λ none. absurd (never (prove≤ (numbers p q r) ((Along (To P Q) (To P Q) ≼ con (pos 0)) ∷ (con (pos 1) ≼ Area P Q R) ∷ [])
-      ((hyp 0 ⊠ (sqr (R .x ⊝ P .x) ⊞ sqr (R .y ⊝ P .y))) ⊞ (hyp 1 ⊠ hyp 1) ⊞ hyp 1 ⊞ hyp 1 ⊞ sqr (Along (To P Q) (To P R))) (con (pos 1)) (con (pos 0)) tt (none, (one-more above, tt)))))
+    ((hyp 0 ⊠ (sqr (R .x ⊝ P .x) ⊞ sqr (R .y ⊝ P .y))) ⊞ (hyp 1 ⊠ hyp 1) ⊞ hyp 1 ⊞ hyp 1 ⊞ sqr (Along (To P Q) (To P R))) (con (pos 1)) (con (pos 0)) tt (none, (one-more above, tt)))))
 
 pub straight-edge : (t : Triangle) → proper t ≡ true → (i : Corner) → Straight (direction (edge t i))
 straight-edge t ok i = spread (corner t i) (corner t (next i)) (corner t (prev i)) (t .k) (subst (λ z. pos 0 <ℤ z) (sym (turned-area t i)) (area-above t ok))

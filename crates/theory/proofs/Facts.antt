@@ -1,13 +1,13 @@
 -- What a lawful plate is known to have, as named facts; the proofs about plates cite only these. Assumes nothing.
-use mathlib.Core.Path.{_≡_, refl, sym, ap, subst, _∙_}
-use mathlib.Core.Bool.{Bool, true, false, not, _&&_, _||_}
+use mathlib.Core.Path.{_≡_, refl, sym, subst, _∙_}
+use mathlib.Core.Bool.{Bool, true, false, not}
 use mathlib.Core.Logic.{_⊎_, inl, inr, ⊎-elim}
 use mathlib.Core.List.{List, [], _∷_, List·Memᴰ, List·Memᴰ·head, List·Memᴰ·tail, Memᴰ·cast}
-use Prim.Native.Nat.{ℕ, _+_, _<_}
+use Prim.Native.Nat.{_+_}
 use native.Mathlib.Omega.{arith}
 use lib.Dec.{eqb}
 use Rattle.std.proofs.shelf.Tests.{and-parts, or-cases, not-true, both-ways, eqb-true}
-use Rattle.exact.specs.Lists.{count, every}
+use Rattle.exact.specs.Lists.{every}
 use Rattle.exact.proofs.Members.{every-out, count-one, flatMap-member, member-flatMap}
 use Rattle.rules.specs.declared.Point.{Point}
 use Rattle.rules.specs.declared.Edge.{Edge}
@@ -119,5 +119,5 @@ facts m ok =
       one-temperature = temperature-out (held m) (p4 .0);
       is-apart = apart-out ts (p5 .0);
       kept-apart = p5 .0;
-      is-clear = clear-out ts (p5 .1)
+      is-clear = clear-out ts (p5 .1);
     }

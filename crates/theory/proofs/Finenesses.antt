@@ -70,10 +70,12 @@ module _ (kind : Values → Plate → Bool) (quantity : Values → Plate → Fra
       let v = carried u m in
       let step = carry m ok u v (carried-there m ok u) is in
       let ok′ = finer-lawful m ok in
-      let far = carried-far n (finer m) ok′ v (step .0) in
-      (far .0, far .1,
-      ≈F-trans (quantity (far .0) (finest n (finer m))) (scaled (scale n) (quantity v (finer m))) (scaled (scale (suc n)) (quantity u m)) (den (finer m) ok′ v) (far .2)
-      (subst (λ p. scaled (scale n) (quantity v (finer m)) ≈F p) (scale-more n (quantity u m)) (≈F-scaled (scale n) (quantity v (finer m)) (scaled (pos 4) (quantity u m)) (natural (4 ^ n)) (step .1))))
+      let far = carried-far n (finer m) ok′ v (step .0) in (
+        far .0,
+        far .1,
+        ≈F-trans (quantity (far .0) (finest n (finer m))) (scaled (scale n) (quantity v (finer m))) (scaled (scale (suc n)) (quantity u m)) (den (finer m) ok′ v) (far .2)
+            (subst (λ p. scaled (scale n) (quantity v (finer m)) ≈F p) (scale-more n (quantity u m)) (≈F-scaled (scale n) (quantity v (finer m)) (scaled (pos 4) (quantity u m)) (natural (4 ^ n)) (step .1))),
+      )
 
 -- a stream of one fineness and a field of another, to scale
 compared : (m : Plate) → lawful m ≡ true → (i j : ℕ) (u s : Values) → isField u (finest i m) ≡ true → isStream s (finest j m) ≡ true →
@@ -118,7 +120,7 @@ bracketed m ok i u s field stream =
     let mi = finest i m in
     record {
       fields = λ n w is. ≤F-trans (whole (scale n *ℤ lower s mi)) (scaled (scale n) (says s mi)) (scaled (scale i) (spent w (finest n m .triangles))) (says-den mi ok-i s)
-        (printed-low n mi ok-i s) (compared m ok n i w s is stream);
+          (printed-low n mi ok-i s) (compared m ok n i w s is stream);
       streams = λ n r is. ≤F-trans (scaled (scale i) (says r (finest n m))) (scaled (scale n) (spent u (mi .triangles))) (whole (scale n *ℤ pos (upper u (mi .triangles)))) (spent-den mi ok-i u)
-        (compared m ok i n u r field is) (printed-high n mi ok-i u)
+          (compared m ok i n u r field is) (printed-high n mi ok-i u);
     }

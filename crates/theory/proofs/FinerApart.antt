@@ -1,29 +1,26 @@
 -- The triangles of a finer plate are parted: by a direction that parts those they are cut from, or by an edge of the one they share. Assumes nothing.
 use mathlib.Core.Path.{_≡_, refl, sym, ap, ap₂, subst, _∙_}
-use mathlib.Core.Bool.{Bool, true, false, _&&_, _||_}
+use mathlib.Core.Bool.{Bool, true}
 use mathlib.Core.Logic.{_⊎_, inl, inr, ⊎-elim}
 use mathlib.Core.List.{List, [], _∷_, _++_, map, flatMap, List·Memᴰ, List·Memᴰ·head, List·Memᴰ·tail, List·Memᴰ·append-cases, Memᴰ·append-left, Memᴰ·append-right, Memᴰ·cast}
-use Prim.Native.Nat.{ℕ, _+_, _≤_}
+use Prim.Native.Nat.{ℕ, _+_}
 use native.Mathlib.Omega.{arith}
 use borrow.Author.Differences.{ints}
 use lib.Dec.{leb}
-use lib.IntN.{ℤ, pos, negℤ, _+ℤ_, _-ℤ_, _*ℤ_}
-use lib.Signed.{_≤ℤ_, _<ℤ_}
+use lib.IntN.{ℤ, pos, _+ℤ_, _*ℤ_}
 use Rattle.std.proofs.shelf.Tests.{and-parts, and-from, or-cases, or-left, or-right, leb-true}
-use Rattle.exact.specs.Lists.{every, any}
+use Rattle.exact.specs.Lists.{every}
 use Rattle.exact.proofs.Members.{every-out, every-in, every-++, any-out, any-in, map-member, member-map, flatMap-member}
 use Rattle.exact.proofs.Order.{pos-≤ℤ, *ℤ-≤ℤ}
 use Rattle.exact.proofs.Ring.{var, _⊕_, _⊗_, solve}
-use Rattle.rules.specs.declared.Point.{Point}
-use Rattle.rules.specs.declared.Edge.{Edge}
 use Rattle.rules.specs.declared.Triangle.{Triangle}
 use Rattle.rules.specs.declared.Vector.{Vector}
 use Rattle.rules.specs.Edges.{Corner, A, B, C, next, corner, edge, edgesIn, direction, across}
-use Rattle.rules.specs.Finer.{parts, finer}
+use Rattle.rules.specs.Finer.{parts}
 use Rattle.rules.specs.Lawful.{before, oneSide, directions, parted, apart}
 use Rattle.rules.specs.Parts.{Part, atA, atB, atC, between, part, middle}
 use Rattle.rules.specs.Triangles.{area2, proper}
-use Rattle.theory.proofs.Corners.{prev, level, higher, area-above}
+use Rattle.theory.proofs.Corners.{level, higher, area-above}
 use Rattle.theory.proofs.Facts.{edge-among, edge-index}
 use Rattle.theory.proofs.Plane.{opposite, across-middle}
 use Rattle.theory.proofs.Separated.{Sides, before-in, before-out, sides-opposite}
@@ -264,7 +261,7 @@ all-apart (t ∷ ts) hp h =
     let ok = and-parts (proper t) (every proper ts) hp in
     let both = and-parts (every (parted t) ts) (apart ts) h in
     apart-++ (parts t) (flatMap parts ts) (parts-apart t (ok .0)) (all-apart ts (ok .1) (both .1)) (λ x y m n.
-      let p = part-out t x m in
-      let at = flatMap-member parts ts y n in
-      let q = part-out (at .0) y (at .2) in
-      subst (λ z. parted z y ≡ true) (sym (p .1)) (subst (λ z. parted (part (p .0) t) z ≡ true) (sym (q .1)) (parts-parted (p .0) (q .0) t (at .0) (every-out (parted t) ts (both .0) (at .0) (at .1)))))
+    let p = part-out t x m in
+    let at = flatMap-member parts ts y n in
+    let q = part-out (at .0) y (at .2) in
+    subst (λ z. parted z y ≡ true) (sym (p .1)) (subst (λ z. parted (part (p .0) t) z ≡ true) (sym (q .1)) (parts-parted (p .0) (q .0) t (at .0) (every-out (parted t) ts (both .0) (at .0) (at .1)))))

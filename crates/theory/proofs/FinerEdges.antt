@@ -1,9 +1,8 @@
 -- How often each edge stands in a finer plate and in its outline, and that all of them are paired there. Assumes nothing.
-use mathlib.Core.Path.{_≡_, refl, sym, ap, subst, _∙_}
-use mathlib.Core.Bool.{Bool, true, false, _&&_}
-use mathlib.Core.Logic.{⊎-elim}
-use mathlib.Core.List.{List, [], _∷_, _++_, map, flatMap, List·Memᴰ, List·Memᴰ·head, List·Memᴰ·tail}
-use Prim.Native.Nat.{ℕ, _+_}
+use mathlib.Core.Path.{_≡_, refl, sym, ap, _∙_}
+use mathlib.Core.Bool.{Bool, true, false}
+use mathlib.Core.List.{List, [], _∷_, map, flatMap, List·Memᴰ, List·Memᴰ·head, List·Memᴰ·tail}
+use Prim.Native.Nat.{_+_}
 use native.Mathlib.Omega.{arith}
 use lib.Dec.{eqb}
 use Rattle.std.proofs.shelf.Tests.{and-from, eq-eqb}
@@ -14,7 +13,7 @@ use Rattle.rules.specs.declared.Edge.{Edge}
 use Rattle.rules.specs.declared.Triangle.{Triangle}
 use Rattle.rules.specs.declared.OutlineEdge.{OutlineEdge}
 use Rattle.rules.specs.declared.OutlineEdge.the-variants.{Closed, Held}
-use Rattle.rules.specs.Edges.{Corner, A, B, C, next, corner, edge, edgesIn, back, sameEdge}
+use Rattle.rules.specs.Edges.{Corner, next, corner, edge, edgesIn, back, sameEdge}
 use Rattle.rules.specs.Finer.{parts, half1, half2, halves, finer}
 use Rattle.rules.specs.Lawful.{edges, edgeOf, outlineEdges, times, paired, outlined}
 use Rattle.rules.specs.Parts.{middle, twice}
@@ -22,7 +21,7 @@ use Rattle.rules.specs.Plates.{Plate}
 use Rattle.theory.proofs.Corners.{prev, mid, middle-comm}
 use Rattle.theory.proofs.Facts.{Facts, edge-in, edge-out}
 use Rattle.theory.proofs.Links.{turns, links}
-use Rattle.theory.proofs.Meetings.{In, link, no-middle}
+use Rattle.theory.proofs.Meetings.{link, no-middle}
 use Rattle.theory.proofs.Pieces.{Piece, first, second, inner, outer, piece, pieces, part-edges, first-halves, second-halves, half1-is, half2-is, same-halves, differ-from, differ-to}
 
 -- ---- the edges of the finer plate, triangle by triangle and edge by edge
@@ -85,26 +84,26 @@ module _ (m : Plate) (known : Facts m) where
   unfolding times
   times-half1-outline e named =
       ap (count (sameEdge (half1 e))) (fine-outline m) ∙ count-each (sameEdge (half1 e)) (sameEdge e) both-halves (outlineEdges m) (λ b nb.
-        let sum = two (sameEdge (half1 e)) (half1 b) (half2 b) in
-        let same = ap one (same-halves half1 half1-is e b) in
-        let other = ap one (differ-from (half1 e) (half2 b) (never-outline (e .from) named b nb)) in
-        omega arith)
+      let sum = two (sameEdge (half1 e)) (half1 b) (half2 b) in
+      let same = ap one (same-halves half1 half1-is e b) in
+      let other = ap one (differ-from (half1 e) (half2 b) (never-outline (e .from) named b nb)) in
+      omega arith)
 
   pub times-half2-outline : (e : Edge) → Named (e .to) → times (half2 e) (outlineEdges (finer m)) ≡ times e (outlineEdges m)
   unfolding times
   times-half2-outline e named =
       ap (count (sameEdge (half2 e))) (fine-outline m) ∙ count-each (sameEdge (half2 e)) (sameEdge e) both-halves (outlineEdges m) (λ b nb.
-        let sum = two (sameEdge (half2 e)) (half1 b) (half2 b) in
-        let other = ap one (differ-to (half2 e) (half1 b) (never-outline (e .to) named b nb)) in
-        let same = ap one (same-halves half2 half2-is e b) in
-        omega arith)
+      let sum = two (sameEdge (half2 e)) (half1 b) (half2 b) in
+      let other = ap one (differ-to (half2 e) (half1 b) (never-outline (e .to) named b nb)) in
+      let same = ap one (same-halves half2 half2-is e b) in
+      omega arith)
 
   times-link-outline : (s : Triangle) (i j : Corner) → List·Memᴰ s (m .triangles) → times (link s i j) (outlineEdges (finer m)) ≡ 0
   unfolding times
   times-link-outline s i j ns =
       ap (count (sameEdge (link s i j))) (fine-outline m) ∙ count-none (sameEdge (link s i j)) (flatMap both-halves (outlineEdges m)) (λ f nf.
-        let at = flatMap-member both-halves (outlineEdges m) f nf in
-        half-not (at .0) (edge-out (m .triangles) (at .0) (known .borders (at .0) (at .1))) f (at .2))
+      let at = flatMap-member both-halves (outlineEdges m) f nf in
+      half-not (at .0) (edge-out (m .triangles) (at .0) (known .borders (at .0) (at .1))) f (at .2))
     where
       half-not : (b : Edge) → (t : Triangle) × (l : Corner) × List·Memᴰ t (m .triangles) × (b ≡ edge t l) → (f : Edge) → List·Memᴰ f (both-halves b) → sameEdge (link s i j) f ≡ false
       half-not b at f (List·Memᴰ·head e) =
@@ -157,7 +156,7 @@ module _ (m : Plate) (known : Facts m) where
   pub all-paired : every (paired (finer m)) (edges (finer m .triangles)) ≡ true
   all-paired =
       ap (every (paired (finer m))) (fine-edges m) ∙ every-flatMap (paired (finer m)) (λ t. map (piece t) pieces) (m .triangles) (λ t nt.
-        every-in (paired (finer m)) (map (piece t) pieces) (λ e ne. let at = map-member (piece t) pieces e ne in ap (paired (finer m)) (at .2) ∙ piece-paired t nt (at .0)))
+      every-in (paired (finer m)) (map (piece t) pieces) (λ e ne. let at = map-member (piece t) pieces e ne in ap (paired (finer m)) (at .2) ∙ piece-paired t nt (at .0)))
 
   outlined-from : (e : Edge) → times e (edges (finer m .triangles)) ≡ 1 → times e (outlineEdges (finer m)) ≡ 1 → outlined (finer m) e ≡ true
   unfolding outlined
@@ -166,10 +165,10 @@ module _ (m : Plate) (known : Facts m) where
   pub all-outlined : every (outlined (finer m)) (outlineEdges (finer m)) ≡ true
   all-outlined =
       ap (every (outlined (finer m))) (fine-outline m) ∙ every-flatMap (outlined (finer m)) both-halves (outlineEdges m) (λ b nb.
-        let at = edge-out (m .triangles) b (known .borders b nb) in
-        let from : Named (b .from) = (at .0, at .1, at .2, ap (λ e. e .from) (at .3)) in
-        let to : Named (b .to) = (at .0, next (at .1), at .2, ap (λ e. e .to) (at .3)) in
-        let once = known .once b (known .borders b nb) in
-        let once′ = known .outlined-once b nb in
-        and-from (outlined (finer m) (half1 b)) _ (outlined-from (half1 b) (times-half1 b from ∙ once) (times-half1-outline b from ∙ once′))
-        (and-from (outlined (finer m) (half2 b)) true (outlined-from (half2 b) (times-half2 b to ∙ once) (times-half2-outline b to ∙ once′)) refl))
+      let at = edge-out (m .triangles) b (known .borders b nb) in
+      let from : Named (b .from) = (at .0, at .1, at .2, ap (λ e. e .from) (at .3)) in
+      let to : Named (b .to) = (at .0, next (at .1), at .2, ap (λ e. e .to) (at .3)) in
+      let once = known .once b (known .borders b nb) in
+      let once′ = known .outlined-once b nb in
+      and-from (outlined (finer m) (half1 b)) _ (outlined-from (half1 b) (times-half1 b from ∙ once) (times-half1-outline b from ∙ once′))
+      (and-from (outlined (finer m) (half2 b)) true (outlined-from (half2 b) (times-half2 b to ∙ once) (times-half2-outline b to ∙ once′)) refl))

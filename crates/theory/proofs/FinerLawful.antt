@@ -1,31 +1,28 @@
 -- A finer plate is lawful. Assumes nothing.
 use mathlib.Core.Path.{_≡_, refl, sym, ap, ap₂, subst, _∙_}
-use mathlib.Core.Bool.{Bool, true, false, not, _&&_, _||_}
+use mathlib.Core.Bool.{Bool, true, not, _&&_}
 use mathlib.Core.Logic.{_⊎_, inl, inr, ⊎-elim}
-use mathlib.Core.List.{List, [], _∷_, map, flatMap, List·Memᴰ, List·Memᴰ·head, List·Memᴰ·tail, List·Memᴰ·not-nil, Memᴰ·cast}
-use Prim.Native.Nat.{ℕ, _+_, _<_}
+use mathlib.Core.List.{map, flatMap, List·Memᴰ, List·Memᴰ·head, List·Memᴰ·tail, List·Memᴰ·not-nil}
 use native.Mathlib.Omega.{arith}
 use lib.Dec.{ltb}
 use lib.IntN.{ℤ, pos, _+ℤ_}
 use lib.Signed.{ltZ}
 use Rattle.std.proofs.shelf.Tests.{and-from, cases-bool, or-left, or-right, not-from-false}
-use Rattle.exact.specs.Lists.{count, every}
+use Rattle.exact.specs.Lists.{every}
 use Rattle.exact.proofs.Members.{every-in, every-flatMap, map-member, member-map, flatMap-member, member-flatMap, count-some}
-use Rattle.rules.specs.declared.Point.{Point}
 use Rattle.rules.specs.declared.Edge.{Edge}
 use Rattle.rules.specs.declared.Triangle.{Triangle}
-use Rattle.rules.specs.declared.Corners.{Corners}
 use Rattle.rules.specs.declared.OutlineEdge.{OutlineEdge}
 use Rattle.rules.specs.declared.OutlineEdge.the-variants.{Closed, Held}
-use Rattle.rules.specs.Edges.{Corner, A, B, C, next, corner, edge, cornersIn, back, sameEdge, inside}
+use Rattle.rules.specs.Edges.{Corner, next, corner, cornersIn, back, sameEdge, inside}
 use Rattle.rules.specs.Finer.{parts, half1, half2, halves, finer}
 use Rattle.rules.specs.Lawful.{edges, edgeOf, outlineEdges, times, paired, outlined, heldEnds, held, agree, oneTemperature, apart, clear, allClear, lawful}
 use Rattle.rules.specs.Parts.{Part, part, middle, twice}
 use Rattle.rules.specs.Plates.{Plate, PointValue, same, samePoint}
 use Rattle.rules.specs.Promises.{FinerLawful}
-use Rattle.rules.specs.Triangles.{area2, proper}
+use Rattle.rules.specs.Triangles.{proper}
 use Rattle.theory.proofs.Corners.{prev, mid}
-use Rattle.theory.proofs.Facts.{Facts, facts, edge-in, edge-out, corner-out}
+use Rattle.theory.proofs.Facts.{Facts, facts, edge-out, corner-out}
 use Rattle.theory.proofs.FinerApart.{one-of, other-of, corner-part, part-out, all-apart}
 use Rattle.theory.proofs.FinerEdges.{fine-edges, all-paired, all-outlined}
 use Rattle.theory.proofs.Insides.{is-outside, inside-back}
@@ -44,7 +41,7 @@ module _ (m : Plate) (known : Facts m) where
   unfolding finer
   all-proper =
       every-flatMap proper parts (m .triangles) (λ t nt. every-in proper (parts t) (λ x n.
-        let p = part-out t x n in ap proper (p .1) ∙ part-proper (p .0) t (known .is-proper t nt)))
+      let p = part-out t x n in ap proper (p .1) ∙ part-proper (p .0) t (known .is-proper t nt)))
 
   triangles-apart : apart (finer m .triangles) ≡ true
   unfolding finer
@@ -69,9 +66,9 @@ module _ (m : Plate) (known : Facts m) where
       let ts = flatMap parts (m .triangles) in
       let test : Edge → Bool = λ e. every (clear e) ts in
       ap (every test) (fine-edges m) ∙ every-flatMap test (λ t. map (piece t) pieces) (m .triangles) (λ s ns. every-in test (map (piece s) pieces) (λ e ne.
-        let p = map-member (piece s) pieces e ne in
-        every-flatMap (clear e) parts (m .triangles) (λ t nt. every-in (clear e) (parts t) (λ x nx.
-          let q = part-out t x nx in ap₂ clear (p .2) (q .1) ∙ part-clear s t ns nt (p .0) (q .0)))))
+      let p = map-member (piece s) pieces e ne in
+      every-flatMap (clear e) parts (m .triangles) (λ t nt. every-in (clear e) (parts t) (λ x nx.
+      let q = part-out t x nx in ap₂ clear (p .2) (q .1) ∙ part-clear s t ns nt (p .0) (q .0)))))
 
   -- ---- temperatures at the ends of halves: doubled from an end, or the sum at a middle
   Doubled : PointValue → Type 0
@@ -165,7 +162,7 @@ module _ (m : Plate) (known : Facts m) where
       let s = edge-out (m .triangles) e (known .borders e ne) in
       let t = edge-out (m .triangles) f (known .borders f nf) in
       let mids : mid (s .0) (s .1) ≡ mid (t .0) (t .1) =
-            sym (ap (λ d. middle (d .from) (d .to)) (s .3)) ∙ sym (ap (λ r. r .at) is) ∙ same-place ∙ ap (λ r. r .at) is′ ∙ ap (λ d. middle (d .from) (d .to)) (t .3) in
+      sym (ap (λ d. middle (d .from) (d .to)) (s .3)) ∙ sym (ap (λ r. r .at) is) ∙ same-place ∙ ap (λ r. r .at) is′ ∙ ap (λ d. middle (d .from) (d .to)) (t .3) in
       ⊎-elim (λ one. alike (s .3 ∙ sym one ∙ sym (t .3))) (λ turned. absurd (no-back e f ne nf (t .3 ∙ turned ∙ ap back (sym (s .3)))))
       (same-middle m known (s .0) (t .0) (s .1) (t .1) (s .2) (t .2) mids)
     where
@@ -185,8 +182,8 @@ module _ (m : Plate) (known : Facts m) where
   one-temperature-there =
       let ps = held (finer m) in
       every-in (λ p. every (agree p) ps) ps (λ p np. every-in (agree p) ps (λ q nq.
-        ⊎-elim (λ t. or-right (not (samePoint (p .at) (q .at))) (same (p .value) (q .value)) (same-from (p .value) (q .value) (held-agree p q np nq (point-is (p .at) (q .at) t))))
-        (λ f. or-left (not (samePoint (p .at) (q .at))) (same (p .value) (q .value)) (not-from-false (samePoint (p .at) (q .at)) f)) (cases-bool (samePoint (p .at) (q .at)))))
+      ⊎-elim (λ t. or-right (not (samePoint (p .at) (q .at))) (same (p .value) (q .value)) (same-from (p .value) (q .value) (held-agree p q np nq (point-is (p .at) (q .at) t))))
+      (λ f. or-left (not (samePoint (p .at) (q .at))) (same (p .value) (q .value)) (not-from-false (samePoint (p .at) (q .at)) f)) (cases-bool (samePoint (p .at) (q .at)))))
 
 pub finer-lawful : FinerLawful
 unfolding lawful

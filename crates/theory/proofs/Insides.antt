@@ -1,6 +1,6 @@
 -- Points strictly inside an edge: the test, the edge turned round, doubled and halved. Assumes nothing.
-use mathlib.Core.Path.{_≡_, refl, sym, ap, subst, _∙_}
-use mathlib.Core.Bool.{Bool, true, false, _&&_}
+use mathlib.Core.Path.{_≡_, ap, subst}
+use mathlib.Core.Bool.{true, false, _&&_}
 use mathlib.Core.Logic.{⊎-elim}
 use mathlib.Core.List.{List, [], _∷_}
 use native.Mathlib.Omega.{arith}
@@ -9,10 +9,9 @@ use lib.IntN.{ℤ, pos, negℤ, _+ℤ_, _-ℤ_, _*ℤ_}
 use lib.Signed.{_≤ℤ_, _<ℤ_, ltZ}
 use Rattle.std.proofs.shelf.Tests.{and-parts, and-from, cases-bool, both-ways}
 use Rattle.exact.proofs.Certificates.{_≈_, sqr, _⊞_, prove≤, prove≡}
-use Rattle.exact.proofs.Ring.{Expr, var, con, _⊕_, _⊗_, _⊝_, ⊖_, solve}
+use Rattle.exact.proofs.Ring.{var, con, _⊕_, _⊗_, _⊝_, ⊖_, solve}
 use Rattle.rules.specs.declared.Point.{Point}
 use Rattle.rules.specs.declared.Edge.{Edge}
-use Rattle.rules.specs.declared.Vector.{Vector}
 use Rattle.rules.specs.Edges.{back, vector, direction, across, along, inside}
 use Rattle.rules.specs.Finer.{half1, half2}
 use Rattle.rules.specs.Parts.{middle, twice}

@@ -24,9 +24,10 @@ unfolding isField has held
 field-at u m field e g h at =
     let ends = every-out (has u) (held m) field in
     let from : PointValue = record { at = e .from; value = g } in
-    let to : PointValue = record { at = e .to; value = h } in
-    (same-is (u (e .from)) g (ends from (member-flatMap heldEnds (m .outline) (Held e g h) from at (List·Memᴰ·head refl))),
-    same-is (u (e .to)) h (ends to (member-flatMap heldEnds (m .outline) (Held e g h) to at (List·Memᴰ·tail (List·Memᴰ·head refl)))))
+    let to : PointValue = record { at = e .to; value = h } in (
+      same-is (u (e .from)) g (ends from (member-flatMap heldEnds (m .outline) (Held e g h) from at (List·Memᴰ·head refl))),
+      same-is (u (e .to)) h (ends to (member-flatMap heldEnds (m .outline) (Held e g h) to at (List·Memᴰ·tail (List·Memᴰ·head refl)))),
+    )
 
 -- a stream has one value at both ends of a closed edge
 pub stream-at : (s : Values) (m : Plate) → isStream s m ≡ true → (e : Edge) → List·Memᴰ (Closed e) (m .outline) → s (e .from) ≡ s (e .to)

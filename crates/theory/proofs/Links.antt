@@ -2,25 +2,23 @@
 use mathlib.Core.Path.{_≡_, refl, sym, ap, subst, _∙_}
 use mathlib.Core.Bool.{Bool, true, false, _&&_}
 use mathlib.Core.Logic.{_⊎_, inl, inr, ⊎-elim}
-use mathlib.Core.List.{List, [], _∷_, map, flatMap, List·Memᴰ}
+use mathlib.Core.List.{List, [], _∷_, map}
 use Prim.Native.Nat.{ℕ, zero, suc, _<_}
 use native.Mathlib.Omega.{arith}
 use borrow.Author.Differences.{ints}
-use lib.IntN.{ℤ, pos, negℤ, _+ℤ_}
-use lib.Signed.{_≤ℤ_, _<ℤ_}
-use Rattle.std.proofs.shelf.Tests.{and-from, and-parts, cases-bool, cases-lt, true≢false}
+use lib.IntN.{negℤ}
+use lib.Signed.{_≤ℤ_}
+use Rattle.std.proofs.shelf.Tests.{and-from, and-parts, true≢false}
 use Rattle.exact.specs.Lists.{count}
 use Rattle.exact.proofs.Members.{count-map, count-cong, count-none, count-some, count-one, only-one}
 use Rattle.rules.specs.declared.Point.{Point}
 use Rattle.rules.specs.declared.Edge.{Edge}
 use Rattle.rules.specs.declared.Triangle.{Triangle}
-use Rattle.rules.specs.declared.Vector.{Vector}
 use Rattle.rules.specs.Edges.{Corner, A, B, C, next, corner, edge, edgesIn, back, sameEdge, direction, across}
 use Rattle.rules.specs.Lawful.{edges, times}
-use Rattle.rules.specs.Parts.{middle, twice}
 use Rattle.rules.specs.Plates.{Plate}
-use Rattle.rules.specs.Triangles.{area2, proper}
-use Rattle.theory.proofs.Corners.{prev, mid, thrice, level, higher, area-above, middle-index, corner-index}
+use Rattle.rules.specs.Triangles.{proper}
+use Rattle.theory.proofs.Corners.{prev, mid, level, higher, area-above, middle-index, corner-index}
 use Rattle.theory.proofs.Facts.{Facts, edge-in, edge-index, edge-among}
 use Rattle.theory.proofs.Insides.{across-back}
 use Rattle.theory.proofs.Meetings.{In, link, low-or-high, no-middle, same-middle}
@@ -136,9 +134,9 @@ module _ (m : Plate) (known : Facts m) where
       let index = middle-index s (known .is-proper s ns) in
       tests-equal (sameEdge (link s i j) (link s l n)) (same-corner i l && same-corner j n)
       (λ h. let e = edge-is (link s i j) (link s l n) h in
-            and-from (same-corner i l) (same-corner j n) (same-corner-from i l (index i l (ap (λ g. g .from) e))) (same-corner-from j n (index j n (ap (λ g. g .to) e))))
+      and-from (same-corner i l) (same-corner j n) (same-corner-from i l (index i l (ap (λ g. g .from) e))) (same-corner-from j n (index j n (ap (λ g. g .to) e))))
       (λ h. let both = and-parts (same-corner i l) (same-corner j n) h in
-            sameEdge-from (link s i j) (link s l n) (λ z. link s (same-corner-is i l (both .0) z) (same-corner-is j n (both .1) z)))
+      sameEdge-from (link s i j) (link s l n) (λ z. link s (same-corner-is i l (both .0) z) (same-corner-is j n (both .1) z)))
 
   own-piece : (s : Triangle) (i j : Corner) → In m known s → (p : Piece) → sameEdge (link s i j) (piece s p) ≡ own i j p
   own-piece s i j ns (first l) = not-first s s i j l ns ns
@@ -161,9 +159,9 @@ module _ (m : Plate) (known : Facts m) where
   own-edge s i ns =
       let corners : List Corner = A ∷ B ∷ C ∷ [] in
       let told : (l : Corner) → sameEdge (edge s i) (edge s l) ≡ same-corner i l = λ l.
-            tests-equal (sameEdge (edge s i) (edge s l)) (same-corner i l)
-            (λ h. same-corner-from i l (corner-index s (known .is-proper s ns) i l (ap (λ g. g .from) (edge-is (edge s i) (edge s l) h))))
-            (λ h. sameEdge-from (edge s i) (edge s l) (ap (edge s) (same-corner-is i l h))) in
+      tests-equal (sameEdge (edge s i) (edge s l)) (same-corner i l)
+      (λ h. same-corner-from i l (corner-index s (known .is-proper s ns) i l (ap (λ g. g .from) (edge-is (edge s i) (edge s l) h))))
+      (λ h. sameEdge-from (edge s i) (edge s l) (ap (edge s) (same-corner-is i l h))) in
       count-map (sameEdge (edge s i)) (edge s) corners ∙ count-cong (λ l. sameEdge (edge s i) (edge s l)) (same-corner i) corners (λ l at. told l) ∙ once i
     where
       once : (i : Corner) → count (same-corner i) (A ∷ B ∷ C ∷ []) ≡ 1

@@ -1,25 +1,24 @@
 -- How corners, middles and edges of a lawful plate meet: only where they should. Assumes nothing.
-use mathlib.Core.Path.{_≡_, refl, sym, ap, ap₂, subst, _∙_}
-use mathlib.Core.Bool.{true, false}
+use mathlib.Core.Path.{_≡_, refl, sym, ap, subst, _∙_}
+use mathlib.Core.Bool.{true}
 use mathlib.Core.Logic.{_⊎_, inl, inr, ⊎-elim}
-use mathlib.Core.List.{List, List·Memᴰ}
+use mathlib.Core.List.{List·Memᴰ}
 use native.Mathlib.Omega.{arith}
 use borrow.Author.Differences.{ints}
-use lib.IntN.{ℤ, pos, negℤ, _+ℤ_, _-ℤ_, _*ℤ_, +ℤ-comm}
-use lib.Signed.{_≤ℤ_, _<ℤ_}
+use lib.IntN.{pos, _+ℤ_, +ℤ-comm}
 use Rattle.rules.specs.declared.Point.{Point}
 use Rattle.rules.specs.declared.Edge.{Edge}
 use Rattle.rules.specs.declared.Triangle.{Triangle}
 use Rattle.rules.specs.declared.Vector.{Vector}
-use Rattle.rules.specs.Edges.{Corner, A, B, C, next, corner, edge, back, direction, vector, across, along}
+use Rattle.rules.specs.Edges.{Corner, A, B, C, next, corner, edge, back, direction, across}
 use Rattle.rules.specs.Finer.{half1, half2}
 use Rattle.rules.specs.Parts.{middle, twice}
 use Rattle.rules.specs.Plates.{Plate, Values}
 use Rattle.rules.specs.Triangles.{area2, proper}
-use Rattle.theory.proofs.Corners.{prev, mid, thrice, middle-comm, level, higher, area-above, middle-index, straight-edge, not-flat}
+use Rattle.theory.proofs.Corners.{prev, mid, thrice, middle-comm, level, higher, area-above, straight-edge, not-flat}
 use Rattle.theory.proofs.Facts.{Facts, edge-in}
-use Rattle.theory.proofs.Insides.{outside, inside-back, half-inside, doubled, across-doubled, across-link, inside-doubled, middle-inside, half1-inside, half2-inside, from-outside, to-outside}
-use Rattle.theory.proofs.Plane.{Inside, Straight, across-middle, touch, same-ends}
+use Rattle.theory.proofs.Insides.{outside, half-inside, doubled, across-doubled, across-link, inside-doubled, middle-inside, half1-inside, half2-inside, from-outside, to-outside}
+use Rattle.theory.proofs.Plane.{Inside, across-middle, touch, same-ends}
 use Rattle.theory.proofs.Separated.{Separated, parted-out, separated-sym}
 
 -- ---- in one triangle: a corner is at an end of edge k, as high as it, or opposite
@@ -131,9 +130,13 @@ pub corner-or-middle : (u : Values) (t : Triangle) (i j : Corner) → ((l : Corn
 corner-or-middle u t i j =
     ⊎-elim (λ e. inl (i, record { place = ap (λ l. middle (corner t i) (corner t l)) e; sum = ap (λ l. u (corner t i) +ℤ u (corner t l)) e }))
     (λ n. inr (⊎-elim (λ e. (i, record { place = ap (λ l. middle (corner t i) (corner t l)) e; sum = ap (λ l. u (corner t i) +ℤ u (corner t l)) e }))
-      (λ e. (j, record {
+    (λ e. (
+      j,
+      record {
         place = middle-comm (corner t i) (corner t j) ∙ ap (λ l. middle (corner t j) (corner t l)) e;
-        sum = +ℤ-comm (u (corner t i)) (u (corner t j)) ∙ ap (λ l. u (corner t j) +ℤ u (corner t l)) e })) n)) (neighbours i j)
+        sum = +ℤ-comm (u (corner t i)) (u (corner t j)) ∙ ap (λ l. u (corner t j) +ℤ u (corner t l)) e;
+      },
+    )) n)) (neighbours i j)
 
 module _ (m : Plate) (known : Facts m) where
   abbrev pub In : Triangle → Type 0
@@ -165,7 +168,7 @@ module _ (m : Plate) (known : Facts m) where
           let h = sep .sides in
           ⊎-elim (λ e. inl (λ z. record { from = e .0 z; to = e .1 z })) (λ e. inr (λ z. record { from = e .0 z; to = e .1 z }))
           (same-ends (sep .way) (corner s i) (corner s (next i)) (corner t j) (corner t (next j)) (sep .straight) (h i j) (h i (next j)) (h (next i) j) (h (next i) (next j)) at
-            (free s t i j ns nt) (free s t i (next j) ns nt) (free t s j i nt ns) (free t s j (next i) nt ns))
+          (free s t i j ns nt) (free s t i (next j) ns nt) (free t s j i nt ns) (free t s j (next i) nt ns))
 
   pub same-middle : (s t : Triangle) (i j : Corner) → In s → In t → mid s i ≡ mid t j → (edge t j ≡ edge s i) ⊎ (edge t j ≡ back (edge s i))
   same-middle s t i j ns nt e =
@@ -209,7 +212,7 @@ module _ (m : Plate) (known : Facts m) where
           let one = across-middle d (corner s (next k)) (corner s (prev k)) in
           let two = across-middle d (corner s (prev k)) (corner s k) in
           let at′ : Inside (record { from = middle (corner s (next k)) (corner s (prev k)); to = middle (corner s (prev k)) (corner s k) }) x =
-                  subst (λ l. Inside (record { from = mid s (next k); to = middle (corner s (prev k)) (corner s l) }) x) (thrice k) at in
+          subst (λ l. Inside (record { from = mid s (next k); to = middle (corner s (prev k)) (corner s l) }) x) (thrice k) at in
           let ka = sep .sides k a in
           let kb = sep .sides k b in
           let na = sep .sides (next k) a in

@@ -35,16 +35,18 @@ use Rattle.theory.proofs.Threes.{each, highest, some-above, sum}
 module _ (s t : Triangle) (ps : proper s ≡ true) (pt : proper t ≡ true)
     (t-above : (i : Corner) → (j : Corner) × (pos 0 <ℤ height s i (spot (corner t j))))
     (s-above : (j : Corner) → (i : Corner) × (pos 0 <ℤ height t j (spot (corner s i)))) where
-
   -- a spot of t above two edges of s
   two-edges : (i : Corner) → (h : Spot) × Within t h × (pos 0 <ℤ height s i h) × (pos 0 <ℤ height s (next i) h)
   two-edges i =
       let found = two-rows f g turns left (t-above i .0) (t-above (next i) .0) (t-above i .1) (t-above (next i) .1) in
       let u = spot (corner t (found .0)) in
       let v = spot (corner t (found .1)) in
-      let m = found .2 in
-      (mix (m .a) u (m .b) v, mix-within t (m .a) (m .b) u v (m .a-least) (m .b-least) (m .some) (corner-within t pt (found .0)) (corner-within t pt (found .1)),
-       mixed-height s i (m .a) (m .b) u v (m .first), mixed-height s (next i) (m .a) (m .b) u v (m .second))
+      let m = found .2 in (
+        mix (m .a) u (m .b) v,
+        mix-within t (m .a) (m .b) u v (m .a-least) (m .b-least) (m .some) (corner-within t pt (found .0)) (corner-within t pt (found .1)),
+        mixed-height s i (m .a) (m .b) u v (m .first),
+        mixed-height s (next i) (m .a) (m .b) u v (m .second),
+      )
     where
       f : Corner → ℤ
       f j = height s i (spot (corner t j))
@@ -96,12 +98,14 @@ module _ (s t : Triangle) (ps : proper s ≡ true) (pt : proper t ≡ true)
       pair-up : (k : Corner) → pos 0 <ℤ cross k → Above
       pair-up k up =
           let n = next k in
-          let w = mixed (m n k) (m n n) (m k k) (m k n) (behind k) (x k .2) (omega (arith, ints)) in
-          (mix (w .a) (x n .0) (w .b) (x k .0), mix-within t (w .a) (w .b) (x n .0) (x k .0) (w .a-least) (w .b-least) (w .some) (x n .1) (x k .1),
-           each (λ i. pos 0 <ℤ height s i (mix (w .a) (x n .0) (w .b) (x k .0))) k
-           (mixed-height s k (w .a) (w .b) (x n .0) (x k .0) (w .first))
-           (mixed-height s n (w .a) (w .b) (x n .0) (x k .0) (w .second))
-           (mixed-height s (prev k) (w .a) (w .b) (x n .0) (x k .0) (mix-above (w .a) (w .b) _ _ (w .a-least) (w .b-least) (w .some) (x n .2) (x k .3))))
+          let w = mixed (m n k) (m n n) (m k k) (m k n) (behind k) (x k .2) (omega (arith, ints)) in (
+            mix (w .a) (x n .0) (w .b) (x k .0),
+            mix-within t (w .a) (w .b) (x n .0) (x k .0) (w .a-least) (w .b-least) (w .some) (x n .1) (x k .1),
+            each (λ i. pos 0 <ℤ height s i (mix (w .a) (x n .0) (w .b) (x k .0))) k
+                (mixed-height s k (w .a) (w .b) (x n .0) (x k .0) (w .first))
+                (mixed-height s n (w .a) (w .b) (x n .0) (x k .0) (w .second))
+                (mixed-height s (prev k) (w .a) (w .b) (x n .0) (x k .0) (mix-above (w .a) (w .b) _ _ (w .a-least) (w .b-least) (w .some) (x n .2) (x k .3))),
+          )
 
       total : (k : Corner) → pos 0 <ℤ sum (m k)
       total k = subst (λ z. pos 0 <ℤ z) (sym (height-sum s (x k .0))) (product-above (x k .0 .n) (area2 s) (x k .1 .above) (area-above s ps))
@@ -111,11 +115,12 @@ module _ (s t : Triangle) (ps : proper s ≡ true) (pt : proper t ≡ true)
           let found = three-rows m low (λ k. x k .2) (λ k. x k .3) (λ k. let h = no-pair k in omega (arith, ints)) total in
           let w = found .0 in
           let wa = found .1 A in let wb = found .1 B in let wc = found .1 C in
-          let later = mix (w B) (x B .0) (w C) (x C .0) in
-          (mix (w A) (x A .0) (pos 1) later,
-           mix-within t (w A) (pos 1) (x A .0) later (omega (arith, ints)) (omega (arith, ints)) (omega (arith, ints)) (x A .1)
-             (mix-within t (w B) (w C) (x B .0) (x C .0) (omega (arith, ints)) (omega (arith, ints)) (omega (arith, ints)) (x B .1) (x C .1)),
-           λ i. mixed-height s i (w A) (pos 1) (x A .0) later (let rows = found .2 i in let parts = height-mix s i (w B) (w C) (x B .0) (x C .0) in omega (arith, ints)))
+          let later = mix (w B) (x B .0) (w C) (x C .0) in (
+            mix (w A) (x A .0) (pos 1) later,
+            mix-within t (w A) (pos 1) (x A .0) later (omega (arith, ints)) (omega (arith, ints)) (omega (arith, ints)) (x A .1)
+                (mix-within t (w B) (w C) (x B .0) (x C .0) (omega (arith, ints)) (omega (arith, ints)) (omega (arith, ints)) (x B .1) (x C .1)),
+            λ i. mixed-height s i (w A) (pos 1) (x A .0) later (let rows = found .2 i in let parts = height-mix s i (w B) (w C) (x B .0) (x C .0) in omega (arith, ints)),
+          )
 
 -- ---- moved a little towards the middle of t, such a spot is strictly inside both
 abbrev Common : Triangle → Triangle → Type 0
@@ -173,8 +178,8 @@ above-edge s t ok i beyond =
 pub not-parted-means : NotPartedMeans
 not-parted-means s t ps pt not-parted =
     let found = three-edges s t ps pt
-          (λ i. above-edge s t ps i (λ b. not-before s t not-parted (direction (edge s i)) (among (Memᴰ·append-left (map direction (edgesIn t)) (member-map direction (edgesIn s) (edge s i) (edge-among s i)))) (inr b)))
-          (λ j. above-edge t s pt j (λ b. not-before s t not-parted (direction (edge t j)) (among (Memᴰ·append-right (map direction (edgesIn s)) (member-map direction (edgesIn t) (edge t j) (edge-among t j)))) (inl b))) in
+    (λ i. above-edge s t ps i (λ b. not-before s t not-parted (direction (edge s i)) (among (Memᴰ·append-left (map direction (edgesIn t)) (member-map direction (edgesIn s) (edge s i) (edge-among s i)))) (inr b)))
+    (λ j. above-edge t s pt j (λ b. not-before s t not-parted (direction (edge t j)) (among (Memᴰ·append-right (map direction (edgesIn s)) (member-map direction (edgesIn t) (edge t j) (edge-among t j)))) (inl b))) in
     moved s t pt (found .0) (found .1) (found .2)
   where
     among : {d : Vector} → List·Memᴰ d (map direction (edgesIn s) ++ map direction (edgesIn t)) → List·Memᴰ d (directions s t)

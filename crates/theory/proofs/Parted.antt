@@ -45,13 +45,13 @@ inner-below : (d : Vector) (t : Triangle) (N : ℕ) (z : Point) (m : ℤ) → St
 unfolding rise
 inner-below d t N z m straight ok inner most =
     by-ltZ (across d z) (pos N *ℤ m) (λ less. less) (λ more.
-      let x : Corner → ℤ = λ i. m -ℤ across d (corner t (prev i)) in
-      let up : (i : Corner) → pos 0 <ℤ rise t i (pos N) z = λ i. above (inner i) in
-      let none : (i : Corner) → x i ≡ pos 0 =
-              noughts (λ i. rise t i (pos N) z) x up (λ i. least (most (prev i)))
-              (subst (λ s. s ≤ℤ pos 0) (sym (mean d t (pos N) m z)) (product (area2 t) (pos N *ℤ m) (across d z) (area-above t ok) more)) in
-      let a = none B in let b = none C in let c = none A in
-      absurd (not-flat d t A straight ok (omega (arith, ints)) (omega (arith, ints))))
+    let x : Corner → ℤ = λ i. m -ℤ across d (corner t (prev i)) in
+    let up : (i : Corner) → pos 0 <ℤ rise t i (pos N) z = λ i. above (inner i) in
+    let none : (i : Corner) → x i ≡ pos 0 =
+    noughts (λ i. rise t i (pos N) z) x up (λ i. least (most (prev i)))
+    (subst (λ s. s ≤ℤ pos 0) (sym (mean d t (pos N) m z)) (product (area2 t) (pos N *ℤ m) (across d z) (area-above t ok) more)) in
+    let a = none B in let b = none C in let c = none A in
+    absurd (not-flat d t A straight ok (omega (arith, ints)) (omega (arith, ints))))
   where
     above : {a b : ℤ} → a <ℤ b → pos 0 <ℤ (b -ℤ a)
     above {a} {b} h = omega (arith, ints)

@@ -1,9 +1,8 @@
 -- The edges of a finer plate: halves of edges, and edges between middles; how often each stands there. Assumes nothing.
-use mathlib.Core.Path.{_≡_, refl, sym, ap, subst, _∙_}
-use mathlib.Core.Bool.{Bool, true, false, cond, _&&_}
-use mathlib.Core.Logic.{_⊎_, inl, inr, ⊎-elim}
-use mathlib.Core.List.{List, [], _∷_, map, flatMap, List·Memᴰ}
-use Prim.Native.Nat.{ℕ, _+_, _<_}
+use mathlib.Core.Path.{_≡_, refl, sym, ap, _∙_}
+use mathlib.Core.Bool.{Bool, false}
+use mathlib.Core.List.{List, [], _∷_, map, flatMap}
+use Prim.Native.Nat.{ℕ, _+_}
 use native.Mathlib.Omega.{arith}
 use borrow.Author.Differences.{ints}
 use lib.IntN.{ℤ, _+ℤ_}
@@ -12,7 +11,7 @@ use Rattle.exact.proofs.Members.{one, count-ones, count-map}
 use Rattle.rules.specs.declared.Point.{Point}
 use Rattle.rules.specs.declared.Edge.{Edge}
 use Rattle.rules.specs.declared.Triangle.{Triangle}
-use Rattle.rules.specs.Edges.{Corner, A, B, C, next, corner, edge, edgesIn, back, sameEdge}
+use Rattle.rules.specs.Edges.{Corner, A, B, C, next, edge, edgesIn, sameEdge}
 use Rattle.rules.specs.Finer.{parts, half1, half2}
 use Rattle.rules.specs.Parts.{middle, twice}
 use Rattle.theory.proofs.Corners.{prev, mid, middle-cancel, middle-comm}

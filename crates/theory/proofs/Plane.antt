@@ -1,21 +1,20 @@
 -- Points of the plane by a direction: how far across and how far along it they lie, and when a point is inside an edge. Assumes nothing.
-use mathlib.Core.Path.{_≡_, refl, sym, ap, ap₂, subst, _∙_}
-use mathlib.Core.Bool.{true, _&&_}
+use mathlib.Core.Path.{_≡_, sym, subst, _∙_}
 use mathlib.Core.Logic.{_⊎_, inl, inr, ⊎-elim}
 use mathlib.Core.List.{List, [], _∷_}
-use Prim.Native.Nat.{ℕ, suc}
+use Prim.Native.Nat.{ℕ}
 use native.Mathlib.Omega.{arith}
 use borrow.Author.Differences.{ints}
-use lib.IntN.{ℤ, pos, negsuc, negℤ, _+ℤ_, _-ℤ_, _*ℤ_, *ℤ-zero, *ℤ-comm}
-use lib.Signed.{_≤ℤ_, _<ℤ_, ltZ}
+use lib.IntN.{ℤ, pos, negℤ, _+ℤ_, _-ℤ_, _*ℤ_, *ℤ-zero, *ℤ-comm}
+use lib.Signed.{_≤ℤ_, _<ℤ_}
 use Rattle.std.proofs.shelf.Signed.{by-ltZ}
-use Rattle.exact.proofs.Certificates.{_≼_, _≈_, hyp, lit, sqr, off, _⊞_, _⊠_, prove≤, prove≡}
+use Rattle.exact.proofs.Certificates.{_≼_, _≈_, hyp, off, _⊞_, _⊠_, prove≤, prove≡}
 use Rattle.exact.proofs.Order.{one-more, below, ≤ℤ-of-≡, *ℤ-cancel-≤ℤ}
-use Rattle.exact.proofs.Ring.{Expr, var, con, _⊕_, _⊗_, _⊝_, ⊖_, value, same, solve}
+use Rattle.exact.proofs.Ring.{Expr, var, con, _⊕_, _⊗_, _⊝_, ⊖_, solve}
 use Rattle.rules.specs.declared.Point.{Point}
 use Rattle.rules.specs.declared.Edge.{Edge}
 use Rattle.rules.specs.declared.Vector.{Vector}
-use Rattle.rules.specs.Edges.{back, vector, direction, across, along}
+use Rattle.rules.specs.Edges.{vector, direction, across, along}
 use Rattle.rules.specs.Parts.{middle}
 
 -- ---- points and vectors as expressions
@@ -92,9 +91,9 @@ weights : (a b x y : ℤ) → pos 0 <ℤ a → pos 0 <ℤ b → pos 0 ≤ℤ x �
 weights a b x y ha hb hx hy sum =
     by-ltZ (pos 0) x
     (λ above. absurd (never (prove≤ (a ∷ b ∷ x ∷ y ∷ [])
-        ((con (pos 1) ≼ var 0) ∷ (con (pos 0) ≼ var 1) ∷ (con (pos 1) ≼ var 2) ∷ (con (pos 0) ≼ var 3) ∷ (((var 0 ⊗ var 2) ⊕ (var 1 ⊗ var 3)) ≈ con (pos 0)) ∷ [])
-        ((hyp 0 ⊠ hyp 2) ⊞ hyp 0 ⊞ hyp 2 ⊞ (hyp 1 ⊠ hyp 3) ⊞ off 4 (con (pos 1))) (con (pos 1)) (con (pos 0)) tt
-        (one-more ha, (omega (arith, ints), (one-more above, (hy, (sum, tt))))))))
+    ((con (pos 1) ≼ var 0) ∷ (con (pos 0) ≼ var 1) ∷ (con (pos 1) ≼ var 2) ∷ (con (pos 0) ≼ var 3) ∷ (((var 0 ⊗ var 2) ⊕ (var 1 ⊗ var 3)) ≈ con (pos 0)) ∷ [])
+    ((hyp 0 ⊠ hyp 2) ⊞ hyp 0 ⊞ hyp 2 ⊞ (hyp 1 ⊠ hyp 3) ⊞ off 4 (con (pos 1))) (con (pos 1)) (con (pos 0)) tt
+    (one-more ha, (omega (arith, ints), (one-more above, (hy, (sum, tt))))))))
     (λ most. omega (arith, ints))
 
 swapped : (a b x y : ℤ) → (a *ℤ x) +ℤ (b *ℤ y) ≡ pos 0 → (b *ℤ y) +ℤ (a *ℤ x) ≡ pos 0
@@ -173,8 +172,8 @@ one-sign a b h =
     by-ltZ (pos 0) a
     (λ ha. by-ltZ (pos 0) b (λ hb. inl (ha, hb)) (λ hb. absurd (not-across a b h (omega (arith, ints)) hb)))
     (λ ha. by-ltZ b (pos 0)
-      (λ hb. by-ltZ a (pos 0) (λ ha′. inr (ha′, hb)) (λ ha′. absurd (not-across a b h ha′ (omega (arith, ints)))))
-      (λ hb. absurd (not-across b a (subst (λ n. pos 0 <ℤ n) (*ℤ-comm a b) h) hb ha)))
+    (λ hb. by-ltZ a (pos 0) (λ ha′. inr (ha′, hb)) (λ ha′. absurd (not-across a b h ha′ (omega (arith, ints)))))
+    (λ hb. absurd (not-across b a (subst (λ n. pos 0 <ℤ n) (*ℤ-comm a b) h) hb ha)))
 
 pub product-above : (a b : ℤ) → pos 0 <ℤ a → pos 0 <ℤ b → pos 0 <ℤ (a *ℤ b)
 product-above a b ha hb =
@@ -189,9 +188,10 @@ amid-products a b c h k =
 products-amid : (a b c : ℤ) → Amid a b c → (pos 0 <ℤ ((b -ℤ a) *ℤ (c -ℤ a))) × (pos 0 <ℤ ((b -ℤ a) *ℤ (b -ℤ c)))
 products-amid a b c (inl h) =
     (product-above (b -ℤ a) (c -ℤ a) (omega (arith, ints, h .0, h .1)) (omega (arith, ints, h .0)), product-above (b -ℤ a) (b -ℤ c) (omega (arith, ints, h .0, h .1)) (omega (arith, ints, h .1)))
-products-amid a b c (inr h) =
-    (subst (λ n. pos 0 <ℤ n) (turned-round a b a c) (product-above (a -ℤ b) (a -ℤ c) (omega (arith, ints, h .0, h .1)) (omega (arith, ints, h .1))),
-     subst (λ n. pos 0 <ℤ n) (turned-round a b c b) (product-above (a -ℤ b) (c -ℤ b) (omega (arith, ints, h .0, h .1)) (omega (arith, ints, h .0))))
+products-amid a b c (inr h) = (
+  subst (λ n. pos 0 <ℤ n) (turned-round a b a c) (product-above (a -ℤ b) (a -ℤ c) (omega (arith, ints, h .0, h .1)) (omega (arith, ints, h .1))),
+  subst (λ n. pos 0 <ℤ n) (turned-round a b c b) (product-above (a -ℤ b) (c -ℤ b) (omega (arith, ints, h .0, h .1)) (omega (arith, ints, h .0))),
+)
   where
     turned-round : (a b c d : ℤ) → (a -ℤ b) *ℤ (c -ℤ d) ≡ (b -ℤ a) *ℤ (d -ℤ c)
     turned-round a b c d = solve (a ∷ b ∷ c ∷ d ∷ []) ((var 0 ⊝ var 1) ⊗ (var 2 ⊝ var 3)) ((var 1 ⊝ var 0) ⊗ (var 3 ⊝ var 2)) tt
@@ -246,12 +246,12 @@ ordered : (p q r s : ℤ) → p <ℤ q → (p +ℤ p) <ℤ (r +ℤ s) → (r +�
 ordered p q r s up low high nr ns np nq =
     by-ltZ p r
     (λ pr. by-ltZ r q (λ rq. absurd (nr (inl (pr, rq))))
-      (λ qr. by-ltZ p s (λ ps. by-ltZ s q (λ sq. absurd (ns (inl (ps, sq)))) (λ qs. absurd (omega (arith, ints))))
-        (λ sp. by-ltZ s p (λ less. absurd (np (inr (less, omega (arith, ints))))) (λ ps. by-ltZ q r (λ more. absurd (nq (inr (omega (arith, ints), more)))) (λ rq. inr (omega (arith, ints), omega (arith, ints)))))))
+    (λ qr. by-ltZ p s (λ ps. by-ltZ s q (λ sq. absurd (ns (inl (ps, sq)))) (λ qs. absurd (omega (arith, ints))))
+    (λ sp. by-ltZ s p (λ less. absurd (np (inr (less, omega (arith, ints))))) (λ ps. by-ltZ q r (λ more. absurd (nq (inr (omega (arith, ints), more)))) (λ rq. inr (omega (arith, ints), omega (arith, ints)))))))
     (λ rp. by-ltZ p s
-      (λ ps. by-ltZ s q (λ sq. absurd (ns (inl (ps, sq))))
-        (λ qs. by-ltZ r p (λ less. absurd (np (inl (less, omega (arith, ints))))) (λ pr. by-ltZ q s (λ more. absurd (nq (inl (omega (arith, ints), more)))) (λ sq. inl (omega (arith, ints), omega (arith, ints))))))
-      (λ sp. absurd (omega (arith, ints))))
+    (λ ps. by-ltZ s q (λ sq. absurd (ns (inl (ps, sq))))
+    (λ qs. by-ltZ r p (λ less. absurd (np (inl (less, omega (arith, ints))))) (λ pr. by-ltZ q s (λ more. absurd (nq (inl (omega (arith, ints), more)))) (λ sq. inl (omega (arith, ints), omega (arith, ints))))))
+    (λ sp. absurd (omega (arith, ints))))
 
 turn : (a b c : ℤ) → Amid a b c → Amid b a c
 turn a b c (inl h) = inr h
@@ -285,10 +285,10 @@ same-ends d p q r s straight pr ps qr qs at nr ns np nq =
     let r-s : across d r ≡ across d s = omega (arith, ints) in
     let amid = inside-amid d (middle p p) (middle q q) (middle r s) (one ∙ sym two) straight at in
     let amid′ : Amid (along d p +ℤ along d p) (along d q +ℤ along d q) (along d r +ℤ along d s) =
-            amid-cong _ _ _ _ _ _ (along-middle d p p) (along-middle d q q) (along-middle d r s) amid in
+    amid-cong _ _ _ _ _ _ (along-middle d p p) (along-middle d q q) (along-middle d r s) amid in
     ⊎-elim
     (λ e. inl (one-point d r p straight (sym p-r) (e .0), one-point d s q straight (sym p-s ∙ p-q) (e .1)))
     (λ e. inr (one-point d r q straight (sym p-r ∙ p-q) (e .0), one-point d s p straight (sym p-s) (e .1)))
     (line (along d p) (along d q) (along d r) (along d s) amid′
-      (λ a. nr (amid-inside d p q r p-q straight p-r a)) (λ a. ns (amid-inside d p q s p-q straight p-s a))
-      (λ a. np (amid-inside d r s p r-s straight (sym p-r) a)) (λ a. nq (amid-inside d r s q r-s straight (sym p-r ∙ p-q) a)))
+    (λ a. nr (amid-inside d p q r p-q straight p-r a)) (λ a. ns (amid-inside d p q s p-q straight p-s a))
+    (λ a. np (amid-inside d r s p r-s straight (sym p-r) a)) (λ a. nq (amid-inside d r s q r-s straight (sym p-r ∙ p-q) a)))

@@ -31,6 +31,7 @@ printed m ok u s =
     sum-at-most drags (λ t. upDragIn t (cornersOf s t)) ts (λ t at. rounded-up t (proper-at m ok t at) (cornersOf s t) .1) in
     let w = whole (work s (m .outline)) in
     let least : (w -F whole (pos (upDrag s ts))) ≤F (w -F sumF drags ts) =
-    ≤F-+ w w (negF (whole (pos (upDrag s ts)))) (negF (sumF drags ts)) (≤F-refl w) (≤F-neg (sumF drags ts) (whole (pos (upDrag s ts))) most) in
-    (sum-at-most (λ t. spentIn t (cornersOf u t)) (λ t. upperIn t (cornersOf u t)) ts (λ t at. rounded-up t (proper-at m ok t at) (cornersOf u t) .0),
-    subst (λ p. p ≤F (w -F sumF drags ts)) (whole-+F (work s (m .outline)) (negℤ (pos (upDrag s ts)))) least)
+    ≤F-+ w w (negF (whole (pos (upDrag s ts)))) (negF (sumF drags ts)) (≤F-refl w) (≤F-neg (sumF drags ts) (whole (pos (upDrag s ts))) most) in (
+      sum-at-most (λ t. spentIn t (cornersOf u t)) (λ t. upperIn t (cornersOf u t)) ts (λ t at. rounded-up t (proper-at m ok t at) (cornersOf u t) .0),
+      subst (λ p. p ≤F (w -F sumF drags ts)) (whole-+F (work s (m .outline)) (negℤ (pos (upDrag s ts)))) least,
+    )

@@ -2,7 +2,7 @@
 use mathlib.Core.Path.{_≡_, refl, sym, ap, ap₂, _∙_}
 use mathlib.Core.Bool.{true, cond, _&&_}
 use mathlib.Core.List.{List, [], _∷_, _++_, map, flatMap, append-assoc, append-nil, map-id}
-use Prim.Native.Nat.{ℕ, zero, suc, _+_, _*_}
+use Prim.Native.Nat.{ℕ, _+_, _*_}
 use native.Mathlib.Omega.{arith}
 use lib.Dec.{eqb}
 use lib.IntN.{ℤ, pos}
@@ -12,14 +12,13 @@ use lib.Signed.{leZ}
 use Rattle.std.specs.Iters.{counting}
 use Rattle.exact.specs.Lists.{every}
 use Rattle.exact.proofs.Members.{every-in, every-map}
-use Rattle.rules.specs.declared.Point.{Point}
 use Rattle.rules.specs.declared.Edge.{Edge}
 use Rattle.rules.specs.declared.Triangle.{Triangle}
 use Rattle.rules.specs.declared.OutlineEdge.{OutlineEdge}
 use Rattle.rules.specs.declared.OutlineEdge.the-variants.{Closed, Held}
 use Rattle.rules.specs.Calls.{ReadAsWritten}
 use Rattle.rules.specs.Limits.{marked, allMarked}
-use Rattle.rules.specs.Numbers.{numberAt, natural, pointAt, triangleAt, outlineAt, triangleStart, outlineStart, plateOf}
+use Rattle.rules.specs.Numbers.{numberAt, natural, pointAt, triangleAt, outlineAt, triangleStart, outlineStart}
 use Rattle.rules.specs.Plates.{Plate}
 use Rattle.rules.specs.Written.{written, writtenTriangle, writtenEdge}
 

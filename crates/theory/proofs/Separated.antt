@@ -1,19 +1,18 @@
 -- Two parted triangles are kept apart by a direction. Assumes nothing.
-use mathlib.Core.Path.{_≡_, refl, sym, ap, subst, _∙_}
-use mathlib.Core.Bool.{Bool, true, _&&_, _||_}
-use mathlib.Core.Logic.{_⊎_, inl, inr, ⊎-elim}
-use mathlib.Core.List.{List, [], _∷_, _++_, map, List·Memᴰ, List·Memᴰ·head, List·Memᴰ·tail, List·Memᴰ·append-cases}
+use mathlib.Core.Path.{_≡_, sym, ap, subst, _∙_}
+use mathlib.Core.Bool.{Bool, true}
+use mathlib.Core.Logic.{⊎-elim}
+use mathlib.Core.List.{map, List·Memᴰ, List·Memᴰ·head, List·Memᴰ·tail, List·Memᴰ·append-cases}
 use native.Mathlib.Omega.{arith}
 use borrow.Author.Differences.{ints}
-use lib.IntN.{ℤ, pos}
-use lib.Signed.{_≤ℤ_, _<ℤ_, leZ}
+use lib.Signed.{_≤ℤ_, leZ}
 use Rattle.std.proofs.shelf.Tests.{or-cases}
-use Rattle.exact.specs.Lists.{every, any}
+use Rattle.exact.specs.Lists.{every}
 use Rattle.exact.proofs.Members.{every-out, every-in, any-out, map-member}
 use Rattle.rules.specs.declared.Point.{Point}
 use Rattle.rules.specs.declared.Triangle.{Triangle}
 use Rattle.rules.specs.declared.Vector.{Vector}
-use Rattle.rules.specs.Edges.{Corner, A, B, C, corner, edge, cornersIn, edgesIn, direction, across}
+use Rattle.rules.specs.Edges.{Corner, corner, cornersIn, edgesIn, direction, across}
 use Rattle.rules.specs.Lawful.{before, oneSide, directions, parted}
 use Rattle.rules.specs.Triangles.{proper}
 use Rattle.theory.proofs.Corners.{straight-edge}
@@ -36,7 +35,7 @@ unfolding before
 before-in d s t h =
     let test : Point → Point → Bool = λ p q. leZ (across d p) (across d q) in
     every-in (λ p. every (test p) (cornersIn t)) (cornersIn s) (λ p m.
-      every-in (test p) (cornersIn t) (λ q n. let i = corner-out s p m in let j = corner-out t q n in at-most (i .0) (j .0) p q (i .1) (j .1)))
+    every-in (test p) (cornersIn t) (λ q n. let i = corner-out s p m in let j = corner-out t q n in at-most (i .0) (j .0) p q (i .1) (j .1)))
   where
     at-most : (i j : Corner) (p q : Point) → p ≡ corner s i → q ≡ corner t j → leZ (across d p) (across d q) ≡ true
     at-most i j p q e f = let le = h i j in let pe = ap (across d) e in let qe = ap (across d) f in grind (arith, ints)

@@ -80,7 +80,7 @@ pub mix-within : (t : Triangle) (a b : ℤ) (h k : Spot) → pos 0 ≤ℤ a → 
 mix-within t a b h k ha hb some wh wk =
     record {
       above = mix-above a b (h .n) (k .n) ha hb some (wh .above) (wk .above);
-      least = λ i. subst (λ z. pos 0 ≤ℤ z) (sym (height-mix t i a b h k)) (mix-least a b (height t i h) (height t i k) ha hb (wh .least i) (wk .least i))
+      least = λ i. subst (λ z. pos 0 ≤ℤ z) (sym (height-mix t i a b h k)) (mix-least a b (height t i h) (height t i k) ha hb (wh .least i) (wk .least i));
     }
 
 pub mixed-height : (t : Triangle) (i : Corner) (a b : ℤ) (h k : Spot) → pos 0 <ℤ ((a *ℤ height t i h) +ℤ (b *ℤ height t i k)) → pos 0 <ℤ height t i (mix a h b k)

@@ -79,6 +79,18 @@ settled-streams = (refl, refl, refl, refl, refl, refl, refl, refl, refl, refl, r
 
 pub table-holds : TableHolds
 table-holds =
-    record
-    { a = row-a; b = row-b; c = row-c; d = row-d; e = row-e; f = row-f; slanted = slanted; laws-alone = laws-alone; plate-limits = plate-limits;
-      value-limits = value-limits; finer-and-carried = finer-and-carried; settled-fields = settled-fields; settled-streams = settled-streams }
+    record {
+      a = row-a;
+      b = row-b;
+      c = row-c;
+      d = row-d;
+      e = row-e;
+      f = row-f;
+      slanted = slanted;
+      laws-alone = laws-alone;
+      plate-limits = plate-limits;
+      value-limits = value-limits;
+      finer-and-carried = finer-and-carried;
+      settled-fields = settled-fields;
+      settled-streams = settled-streams;
+    }

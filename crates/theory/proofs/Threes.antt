@@ -61,10 +61,10 @@ nought : (a b c x y z : ℤ) → pos 0 <ℤ a → pos 0 <ℤ b → pos 0 <ℤ c 
 nought a b c x y z ha hb hc hx hy hz most =
     by-ltZ (pos 0) x
     (λ above. absurd (never (prove≤ (a ∷ b ∷ c ∷ x ∷ y ∷ z ∷ [])
-      ((con (pos 1) ≼ var 0) ∷ (con (pos 1) ≼ var 1) ∷ (con (pos 1) ≼ var 2) ∷ (con (pos 1) ≼ var 3) ∷ (con (pos 0) ≼ var 4) ∷ (con (pos 0) ≼ var 5) ∷
-       (((var 0 ⊗ var 3) ⊕ ((var 1 ⊗ var 4) ⊕ (var 2 ⊗ var 5))) ≼ con (pos 0)) ∷ [])
-      ((hyp 0 ⊠ (hyp 3 ⊞ lit 1)) ⊞ hyp 3 ⊞ ((hyp 1 ⊞ lit 1) ⊠ hyp 4) ⊞ ((hyp 2 ⊞ lit 1) ⊠ hyp 5) ⊞ hyp 6) (con (pos 1)) (con (pos 0)) tt
-      (one-more ha, (one-more hb, (one-more hc, (one-more above, (hy, (hz, (most, tt))))))))))
+    ((con (pos 1) ≼ var 0) ∷ (con (pos 1) ≼ var 1) ∷ (con (pos 1) ≼ var 2) ∷ (con (pos 1) ≼ var 3) ∷ (con (pos 0) ≼ var 4) ∷ (con (pos 0) ≼ var 5) ∷
+    (((var 0 ⊗ var 3) ⊕ ((var 1 ⊗ var 4) ⊕ (var 2 ⊗ var 5))) ≼ con (pos 0)) ∷ [])
+    ((hyp 0 ⊠ (hyp 3 ⊞ lit 1)) ⊞ hyp 3 ⊞ ((hyp 1 ⊞ lit 1) ⊠ hyp 4) ⊞ ((hyp 2 ⊞ lit 1) ⊠ hyp 5) ⊞ hyp 6) (con (pos 1)) (con (pos 0)) tt
+    (one-more ha, (one-more hb, (one-more hc, (one-more above, (hy, (hz, (most, tt))))))))))
     (λ low. omega (arith, ints))
 
 pub noughts : (w x : Corner → ℤ) → ((i : Corner) → pos 0 <ℤ w i) → ((i : Corner) → pos 0 ≤ℤ x i) → sum (λ i. w i *ℤ x i) ≤ℤ pos 0 → (i : Corner) → x i ≡ pos 0
