@@ -14,8 +14,8 @@ use Rattle.rules.specs.Parts.{middle}
 use Rattle.rules.specs.Plates.{Plate, PointValue, Values, samePoint}
 use Rattle.rules.specs.Promises.{CarriedThere}
 use Rattle.theory.proofs.Facts.{Facts, facts}
+use Rattle.theory.proofs.Halves.{twice-is}
 use Rattle.theory.proofs.Meetings.{In, SameSum, corner-or-middle, no-middle, same-middle}
-use Rattle.theory.proofs.Pieces.{twice-is}
 use Rattle.theory.proofs.Sameness.{point-is, samePoint-from}
 
 -- ---- the first of several that agree

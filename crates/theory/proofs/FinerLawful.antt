@@ -25,9 +25,10 @@ use Rattle.theory.proofs.Corners.{prev, mid}
 use Rattle.theory.proofs.Facts.{Facts, facts, edge-out, corner-out}
 use Rattle.theory.proofs.FinerApart.{one-of, other-of, corner-part, part-out, all-apart}
 use Rattle.theory.proofs.FinerEdges.{fine-edges, all-paired, all-outlined}
+use Rattle.theory.proofs.Halves.{twice-is}
 use Rattle.theory.proofs.Insides.{is-outside, inside-back}
-use Rattle.theory.proofs.Meetings.{no-middle, same-middle, half1-clear, half2-clear, link-clear, link}
-use Rattle.theory.proofs.Pieces.{Piece, first, second, inner, outer, piece, pieces, twice-is}
+use Rattle.theory.proofs.Meetings.{no-middle, same-middle, half-clear, link-clear, link}
+use Rattle.theory.proofs.Pieces.{Piece, halved, inner, outer, piece, pieces}
 use Rattle.theory.proofs.Plane.{Inside}
 use Rattle.theory.proofs.Sameness.{point-is, same-from, sameEdge-from, sameEdge-refl}
 use Rattle.theory.proofs.Triangles.{parts-alike, part-k}
@@ -49,8 +50,7 @@ module _ (m : Plate) (known : Facts m) where
 
   -- ---- no corner of it lies inside an edge
   piece-clear : (s t : Triangle) → List·Memᴰ s (m .triangles) → List·Memᴰ t (m .triangles) → (p : Piece) (a b : Corner) → Inside (piece s p) (middle (corner t a) (corner t b)) → ⊥
-  piece-clear s t ns nt (first i) a b = half1-clear m known s t i a b ns nt
-  piece-clear s t ns nt (second i) a b = half2-clear m known s t i a b ns nt
+  piece-clear s t ns nt (halved side i) a b = half-clear m known side s t i a b ns nt
   piece-clear s t ns nt (inner k) a b = link-clear m known s t k a b ns nt
   piece-clear s t ns nt (outer k) a b = λ at. link-clear m known s t k a b ns nt (inside-back (link s (prev k) (next k)) (middle (corner t a) (corner t b)) at)
 

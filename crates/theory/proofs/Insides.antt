@@ -16,7 +16,7 @@ use Rattle.rules.specs.Edges.{back, vector, direction, across, along, inside}
 use Rattle.rules.specs.Finer.{half1, half2}
 use Rattle.rules.specs.Parts.{middle, twice}
 use Rattle.rules.specs.Plates.{same}
-use Rattle.theory.proofs.Corners.{middle-comm}
+use Rattle.theory.proofs.Halves.{Side, begin, end, half, back-half}
 use Rattle.theory.proofs.Plane.{Pair, pair, Across, Along, To, Sum, Inside, Straight, across-middle, along-middle}
 use Rattle.theory.proofs.Sameness.{same-is, same-from}
 
@@ -168,7 +168,7 @@ halved p q r =
 square-sum : (a b : ℤ) → pos 0 ≤ℤ ((a *ℤ a) +ℤ (b *ℤ b))
 square-sum a b = prove≤ (a ∷ b ∷ []) [] (sqr (var 0) ⊞ sqr (var 1)) (con (pos 0)) ((var 0 ⊗ var 0) ⊕ (var 1 ⊗ var 1)) tt tt
 
-pub half1-inside : (e : Edge) (r : Point) → Inside (half1 e) r → Inside (doubled e) r
+half1-inside : (e : Edge) (r : Point) → Inside (half1 e) r → Inside (doubled e) r
 half1-inside e r at =
     let p = e .from in
     let q = e .to in
@@ -192,9 +192,10 @@ half1-inside e r at =
     let bq = along-doubled p q (twice q) in
     record { on = omega (arith, ints); past = omega (arith, ints); short = omega (arith, ints) }
 
-pub half2-inside : (e : Edge) (r : Point) → Inside (half2 e) r → Inside (doubled e) r
-half2-inside e r at =
-    let turned : Inside (half1 (back e)) r = subst (λ m. Inside (record { from = twice (e .to); to = m }) r) (middle-comm (e .from) (e .to)) (inside-back (half2 e) r at) in
+pub halved-inside : (s : Side) (e : Edge) (r : Point) → Inside (half s e) r → Inside (doubled e) r
+halved-inside begin e r at = half1-inside e r at
+halved-inside end e r at =
+    let turned : Inside (half1 (back e)) r = subst (λ f. Inside f r) (back-half end e) (inside-back (half2 e) r at) in
     inside-back (doubled (back e)) r (half1-inside (back e) r turned)
 
 -- on the edge from the middle of q and r to that of r and p all lies as far across the edge from p to q
@@ -218,3 +219,8 @@ from-outside e r is at = let past = at .past in let here = ap (along (direction 
 
 pub to-outside : (e : Edge) (r : Point) → r ≡ e .to → Inside e r → ⊥
 to-outside e r is at = let short = at .short in let here = ap (along (direction e)) is in omega (arith, ints)
+
+-- nor is the middle of an edge inside a half of it
+pub middle-outside : (s : Side) (e : Edge) (r : Point) → r ≡ middle (e .from) (e .to) → Inside (half s e) r → ⊥
+middle-outside begin e r is at = to-outside (half1 e) r is at
+middle-outside end e r is at = from-outside (half2 e) r is at

@@ -10,6 +10,7 @@ pub mod Finenesses
 pub mod FinerApart
 pub mod FinerEdges
 pub mod FinerLawful
+pub mod Halves
 pub mod Insides
 pub mod Known
 pub mod Links

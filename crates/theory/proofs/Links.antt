@@ -20,9 +20,10 @@ use Rattle.rules.specs.Plates.{Plate}
 use Rattle.rules.specs.Triangles.{proper}
 use Rattle.theory.proofs.Corners.{prev, mid, level, higher, area-above, middle-index, corner-index}
 use Rattle.theory.proofs.Facts.{Facts, edge-in, edge-index, edge-among}
+use Rattle.theory.proofs.Halves.{Side, begin, end, half}
 use Rattle.theory.proofs.Insides.{across-back}
 use Rattle.theory.proofs.Meetings.{In, link, low-or-high, no-middle, same-middle}
-use Rattle.theory.proofs.Pieces.{Piece, first, second, inner, outer, piece, pieces}
+use Rattle.theory.proofs.Pieces.{Piece, halved, inner, outer, piece, pieces, tips-differ}
 use Rattle.theory.proofs.Sameness.{edge-is, sameEdge-refl, sameEdge-from, sameEdge-not, tests-equal}
 
 -- ---- no triangle lies above both sides of an edge
@@ -116,16 +117,14 @@ module _ (m : Plate) (known : Facts m) where
       only-one test edgesIn (m .triangles) (known .once (edge s i) (edge-in (m .triangles) s i ns)) s t ns nt
       (count-some test (edgesIn s) (edge s i) (edge-among s i) (sameEdge-refl (edge s i))) (count-some test (edgesIn t) (edge t l) (edge-among t l) (sameEdge-from (edge s i) (edge t l) (sym e)))
 
-  not-first : (s t : Triangle) (i j l : Corner) → In m known s → In m known t → sameEdge (link s i j) (piece t (first l)) ≡ false
-  not-first s t i j l ns nt = sameEdge-not (link s i j) (piece t (first l)) (λ e. no-middle m known t s l i nt ns (sym (ap (λ g. g .from) e)))
-
-  not-second : (s t : Triangle) (i j l : Corner) → In m known s → In m known t → sameEdge (link s i j) (piece t (second l)) ≡ false
-  not-second s t i j l ns nt = sameEdge-not (link s i j) (piece t (second l)) (λ e. no-middle m known t s (next l) j nt ns (sym (ap (λ g. g .to) e)))
+  -- no half of an edge is one between middles
+  not-half : (s t : Triangle) (i j : Corner) (side : Side) (l : Corner) → In m known s → In m known t → sameEdge (link s i j) (piece t (halved side l)) ≡ false
+  not-half s t i j begin l ns nt = tips-differ begin (link s i j) (half begin (edge t l)) (λ e. no-middle m known t s l i nt ns (sym e))
+  not-half s t i j end l ns nt = tips-differ end (link s i j) (half end (edge t l)) (λ e. no-middle m known t s (next l) j nt ns (sym e))
 
   -- ---- in its own triangle an edge between middles stands once
   abbrev own : Corner → Corner → Piece → Bool
-  own i j (first l) = false
-  own i j (second l) = false
+  own i j (halved side l) = false
   own i j (inner k) = same-corner i (next k) && same-corner j (prev k)
   own i j (outer k) = same-corner i (prev k) && same-corner j (next k)
 
@@ -139,8 +138,7 @@ module _ (m : Plate) (known : Facts m) where
       sameEdge-from (link s i j) (link s l n) (λ z. link s (same-corner-is i l (both .0) z) (same-corner-is j n (both .1) z)))
 
   own-piece : (s : Triangle) (i j : Corner) → In m known s → (p : Piece) → sameEdge (link s i j) (piece s p) ≡ own i j p
-  own-piece s i j ns (first l) = not-first s s i j l ns ns
-  own-piece s i j ns (second l) = not-second s s i j l ns ns
+  own-piece s i j ns (halved side l) = not-half s s i j side l ns ns
   own-piece s i j ns (inner k) = own-link s i j (next k) (prev k) ns
   own-piece s i j ns (outer k) = own-link s i j (prev k) (next k) ns
 
@@ -194,7 +192,6 @@ module _ (m : Plate) (known : Facts m) where
               absurd (omega arith))
 
           not-there : (p : Piece) → test (piece t p) ≡ false
-          not-there (first l) = not-first s t i j l ns nt
-          not-there (second l) = not-second s t i j l ns nt
+          not-there (halved side l) = not-half s t i j side l ns nt
           not-there (inner k) = apart (next k) (prev k)
           not-there (outer k) = apart (prev k) (next k)

@@ -11,13 +11,13 @@ use Rattle.rules.specs.declared.Edge.{Edge}
 use Rattle.rules.specs.declared.Triangle.{Triangle}
 use Rattle.rules.specs.declared.Vector.{Vector}
 use Rattle.rules.specs.Edges.{Corner, A, B, C, next, corner, edge, back, direction, across}
-use Rattle.rules.specs.Finer.{half1, half2}
 use Rattle.rules.specs.Parts.{middle, twice}
 use Rattle.rules.specs.Plates.{Plate, Values}
 use Rattle.rules.specs.Triangles.{area2, proper}
 use Rattle.theory.proofs.Corners.{prev, mid, thrice, middle-comm, level, higher, area-above, straight-edge, not-flat}
 use Rattle.theory.proofs.Facts.{Facts, edge-in}
-use Rattle.theory.proofs.Insides.{outside, half-inside, doubled, across-doubled, across-link, inside-doubled, middle-inside, half1-inside, half2-inside, from-outside, to-outside}
+use Rattle.theory.proofs.Halves.{Side, half}
+use Rattle.theory.proofs.Insides.{outside, half-inside, doubled, across-doubled, across-link, inside-doubled, middle-inside, halved-inside, from-outside, to-outside, middle-outside}
 use Rattle.theory.proofs.Plane.{Inside, across-middle, touch, same-ends}
 use Rattle.theory.proofs.Separated.{Separated, parted-out, separated-sym}
 
@@ -192,11 +192,8 @@ module _ (m : Plate) (known : Facts m) where
       middles : ((l : Corner) × SameSum (λ p. pos 0) t a b l (next l)) → x ≡ mid s i
       middles c = c .1 .place ∙ middle-of s t i (c .0) (inside-middle s t i (c .0) ns nt (subst (Inside (doubled (edge s i))) (c .1 .place) at))
 
-  pub half1-clear : (s t : Triangle) (i a b : Corner) → In s → In t → Inside (half1 (edge s i)) (middle (corner t a) (corner t b)) → ⊥
-  half1-clear s t i a b ns nt at = to-outside (half1 (edge s i)) _ (inside-edge s t i a b ns nt (half1-inside (edge s i) _ at)) at
-
-  pub half2-clear : (s t : Triangle) (i a b : Corner) → In s → In t → Inside (half2 (edge s i)) (middle (corner t a) (corner t b)) → ⊥
-  half2-clear s t i a b ns nt at = from-outside (half2 (edge s i)) _ (inside-edge s t i a b ns nt (half2-inside (edge s i) _ at)) at
+  pub half-clear : (side : Side) (s t : Triangle) (i a b : Corner) → In s → In t → Inside (half side (edge s i)) (middle (corner t a) (corner t b)) → ⊥
+  half-clear side s t i a b ns nt at = middle-outside side (edge s i) _ (inside-edge s t i a b ns nt (halved-inside side (edge s i) _ at)) at
 
   pub link-clear : (s t : Triangle) (k a b : Corner) → In s → In t → Inside (link s (next k) (prev k)) (middle (corner t a) (corner t b)) → ⊥
   link-clear s t k a b ns nt at = ⊎-elim own other (one-or-separated s t ns nt)

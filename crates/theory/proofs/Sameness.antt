@@ -68,20 +68,8 @@ samePoint-from = passes samePoint samePoint-refl point-is
 pub sameEdge-from : (e f : Edge) → e ≡ f → sameEdge e f ≡ true
 sameEdge-from = passes sameEdge sameEdge-refl edge-is
 
-pub same-sym : (y z : ℤ) → same y z ≡ same z y
-same-sym = symmetric same same-refl same-is
-
-pub samePoint-sym : (p q : Point) → samePoint p q ≡ samePoint q p
-samePoint-sym = symmetric samePoint samePoint-refl point-is
-
 pub sameEdge-sym : (e f : Edge) → sameEdge e f ≡ sameEdge f e
 sameEdge-sym = symmetric sameEdge sameEdge-refl edge-is
-
-pub same-not : (y z : ℤ) → (y ≡ z → ⊥) → same y z ≡ false
-same-not = fails same same-refl same-is
-
-pub samePoint-not : (p q : Point) → (p ≡ q → ⊥) → samePoint p q ≡ false
-samePoint-not = fails samePoint samePoint-refl point-is
 
 pub sameEdge-not : (e f : Edge) → (e ≡ f → ⊥) → sameEdge e f ≡ false
 sameEdge-not = fails sameEdge sameEdge-refl edge-is
