@@ -1,10 +1,11 @@
 -- Tests and counts over lists, by the members of the list. Assumes nothing.
 use mathlib.Core.Path.{_≡_, refl, sym, ap, subst, _∙_}
 use mathlib.Core.Bool.{Bool, true, false, cond, _&&_}
-use mathlib.Core.Logic.{⊎-elim}
+use mathlib.Core.Logic.{_⊎_, inl, inr, ⊎-elim}
 use mathlib.Core.List.{List, [], _∷_, _++_, map, flatMap, List·Memᴰ, List·Memᴰ·head, List·Memᴰ·tail, List·Memᴰ·append-cases, Memᴰ·append-left, Memᴰ·append-right, append-assoc}
 use Prim.Native.Nat.{ℕ, suc, _+_, _≤_, _<_}
 use native.Mathlib.Omega.{arith}
+use lib.ListN.{length}
 use Rattle.std.proofs.shelf.Tests.{and-parts, and-from, or-cases, or-left, or-right, cases-bool, true≢false}
 use Rattle.exact.specs.Lists.{count, every, any}
 
@@ -20,6 +21,10 @@ ones p (x ∷ xs) = one (p x) + ones p xs
 more : (b : Bool) (n : ℕ) → cond b (suc n) n ≡ one b + n
 more true n = omega arith
 more false n = omega arith
+
+one-more : (b c : Bool) → (b ≡ true → c ≡ true) → one b ≤ one c
+one-more true c h = let is = ap one (h refl) in omega arith
+one-more false c h = omega arith
 
 module _ {A : Type 0} where
   -- ---- all pass a test
@@ -37,6 +42,13 @@ module _ {A : Type 0} where
   every-++ p (x ∷ xs) ys h k =
       let both = and-parts (p x) (every p xs) h in
       and-from (p x) (every p (xs ++ ys)) (both .0) (every-++ p xs ys (both .1) k)
+
+  -- or some element fails
+  pub every-or : (p : A → Bool) (xs : List A) → (every p xs ≡ true) ⊎ ((x : A) × List·Memᴰ x xs × (p x ≡ false))
+  every-or p [] = inl refl
+  every-or p (x ∷ xs) =
+      ⊎-elim (λ t. ⊎-elim (λ rest. inl (and-from (p x) (every p xs) t rest)) (λ found. inr (found .0, List·Memᴰ·tail (found .1), found .2)) (every-or p xs))
+      (λ f. inr (x, List·Memᴰ·head refl, f)) (cases-bool (p x))
 
   -- ---- some pass it
   pub any-out : (p : A → Bool) (xs : List A) → any p xs ≡ true → (x : A) × List·Memᴰ x xs × (p x ≡ true)
@@ -71,6 +83,42 @@ module _ {A : Type 0} where
       let here = h x (List·Memᴰ·head refl) in
       let rest = count-cong p q xs (λ y m. h y (List·Memᴰ·tail m)) in
       cc
+
+  -- where more pass
+  pub count-more : (p q : A → Bool) (xs : List A) → ((x : A) → List·Memᴰ x xs → p x ≡ true → q x ≡ true) → count p xs ≤ count q xs
+  count-more p q [] h = omega arith
+  count-more p q (x ∷ xs) h =
+      let rest = count-more p q xs (λ y m. h y (List·Memᴰ·tail m)) in
+      let left = count-cons p x xs in
+      let right = count-cons q x xs in
+      let here = one-more (p x) (q x) (h x (List·Memᴰ·head refl)) in
+      omega arith
+
+  pub count-one-more : (p q : A → Bool) (xs : List A) → ((x : A) → List·Memᴰ x xs → p x ≡ true → q x ≡ true) → (x : A) → List·Memᴰ x xs → p x ≡ false → q x ≡ true → count p xs < count q xs
+  count-one-more p q [] h x m fails passes = elim m [ ]
+  count-one-more p q (y ∷ ys) h x (List·Memᴰ·head e) fails passes =
+      let rest = count-more p q ys (λ z m. h z (List·Memᴰ·tail m)) in
+      let left = count-cons p y ys in
+      let right = count-cons q y ys in
+      let none = ap one (ap p (sym e) ∙ fails) in
+      let some = ap one (ap q (sym e) ∙ passes) in
+      omega arith
+  count-one-more p q (y ∷ ys) h x (List·Memᴰ·tail m) fails passes =
+      let rest = count-one-more p q ys (λ z n. h z (List·Memᴰ·tail n)) x m fails passes in
+      let left = count-cons p y ys in
+      let right = count-cons q y ys in
+      let here = one-more (p y) (q y) (h y (List·Memᴰ·head refl)) in
+      omega arith
+
+  pub count-all : (p : A → Bool) (xs : List A) → length xs ≤ count p xs → (x : A) → List·Memᴰ x xs → p x ≡ true
+  count-all p xs h x m = ⊎-elim (λ t. t) (λ f. absurd (too-few (count-one-more p (λ y. true) xs (λ y n t. refl) x m f refl) (count-true xs))) (cases-bool (p x))
+    where
+      too-few : count p xs < count (λ y. true) xs → count (λ y. true) xs ≡ length xs → ⊥
+      too-few less all = omega arith
+
+      count-true : (ys : List A) → count (λ y. true) ys ≡ length ys
+      count-true [] = refl
+      count-true (y ∷ ys) = ap suc (count-true ys)
 
   pub count-none : (p : A → Bool) (xs : List A) → ((x : A) → List·Memᴰ x xs → p x ≡ false) → count p xs ≡ 0
   count-none p [] h = refl

@@ -1,18 +1,22 @@
 -- What is promised of every lawful plate. Each promise is a type; a proof of it is the theorem. Assumes nothing.
 use mathlib.Core.Path.{_≡_}
-use mathlib.Core.Bool.{true, false}
+use mathlib.Core.Bool.{Bool, true, false}
+use mathlib.Core.List.{List·Memᴰ}
 use Prim.Native.Nat.{ℕ, _*_, _^_, _<_}
 use lib.IntN.{ℤ, pos, _*ℤ_}
 use lib.Signed.{_≤ℤ_, _<ℤ_}
 use Rattle.exact.specs.Fractions.{whole, scaled, _≤F_, _≈F_}
 use Rattle.rules.specs.declared.Point.{Point}
+use Rattle.rules.specs.declared.Edge.{Edge}
 use Rattle.rules.specs.declared.Triangle.{Triangle}
+use Rattle.rules.specs.declared.OutlineEdge.the-variants.{Closed}
 use Rattle.rules.specs.Bounds.{upper, upDrag, work, lower}
 use Rattle.rules.specs.Edges.{Corner, corner, edge, direction, across}
 use Rattle.rules.specs.Energy.{isField, isStream, spent, says}
 use Rattle.rules.specs.Finer.{finer, finest, Carried, carried}
 use Rattle.rules.specs.Lawful.{lawful, parted}
-use Rattle.rules.specs.Plates.{Plate, Values}
+use Rattle.rules.specs.Plates.{Plate, Values, among}
+use Rattle.rules.specs.Settled.{group, changedAll}
 use Rattle.rules.specs.Triangles.{proper}
 
 -- four to the n, the scale at which a plate n times finer spends and says
@@ -98,3 +102,16 @@ PartedMeans =
 abbrev pub NotPartedMeans : Type 0
 NotPartedMeans =
     (s t : Triangle) → proper s ≡ true → proper t ≡ true → parted s t ≡ false → (N : ℕ) × (0 < N) × (z : Point) × Strictly N s z × Strictly N t z
+
+-- ---- what it means to be of one group
+-- closed edges join q to p: whatever marks p, and is the same at both ends of each closed edge, marks q
+abbrev pub Joined : Plate → Point → Point → Type 0
+Joined m p q = (marks : Point → Bool) → ((e : Edge) → List·Memᴰ (Closed e) (m .outline) → marks (e .from) ≡ marks (e .to)) → marks p ≡ true → marks q ≡ true
+
+-- the group of a point is just all points that closed edges join to it
+abbrev pub GroupsJoined : Type 0
+GroupsJoined = (m : Plate) (p q : Point) → (among q (group m p) ≡ true → Joined m p q) × (Joined m p q → among q (group m p) ≡ true)
+
+-- a stream with a group changed is a stream
+abbrev pub GroupsKept : Type 0
+GroupsKept = (m : Plate) (s : Values) (p : Point) (d : ℤ) → isStream s m ≡ true → isStream (changedAll s (group m p) d) m ≡ true

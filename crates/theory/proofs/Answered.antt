@@ -1,15 +1,14 @@
 -- Plates and values as rows of numbers: what the calls answer is what the promises speak of. Assumes nothing.
-use mathlib.Core.Path.{_≡_, refl, sym, ap, subst, _∙_}
-use mathlib.Core.Bool.{Bool, true, false, cond, _&&_, not}
+use mathlib.Core.Path.{_≡_, refl, sym, ap, _∙_}
+use mathlib.Core.Bool.{Bool, true, false, _&&_}
 use mathlib.Core.Logic.{⊎-elim}
-use mathlib.Core.List.{List, [], _∷_, _++_, map, flatMap, List·Memᴰ, List·Memᴰ·head, List·Memᴰ·tail, Memᴰ·append-left, Memᴰ·append-right, Memᴰ·cast}
-use Prim.Native.Nat.{ℕ, suc, _+_, _<_}
+use mathlib.Core.List.{List, [], flatMap, List·Memᴰ, List·Memᴰ·head, List·Memᴰ·tail, Memᴰ·cast}
+use Prim.Native.Nat.{ℕ, _+_, _<_}
 use native.Mathlib.Omega.{arith}
 use lib.Dec.{eqb, ltb}
 use lib.IntN.{ℤ, pos}
-use lib.ListN.{length, getD, length-map}
-use Rattle.std.specs.shelf.Lists.{folded}
-use Rattle.std.proofs.shelf.Tests.{and-parts, and-from, cases-bool, both-ways, cond-true, cond-false, cond-both, eqb-true, eq-eqb, lt-ltb, ltb-true}
+use lib.ListN.{length, length-map}
+use Rattle.std.proofs.shelf.Tests.{and-parts, and-from, cases-bool, both-ways, cond-true, cond-false, eqb-true, eq-eqb}
 use Rattle.exact.proofs.Members.{member-flatMap}
 use Rattle.rules.specs.declared.Point.{Point}
 use Rattle.rules.specs.declared.Triangle.{Triangle}
@@ -22,7 +21,7 @@ use Rattle.rules.specs.Lawful.{lawful}
 use Rattle.rules.specs.Limits.{counts, allMarked, modestPlate}
 use Rattle.rules.specs.Numbers.{plateOf}
 use Rattle.rules.specs.Parts.{Part, atA, atB, atC, between, middle, twice, part}
-use Rattle.rules.specs.Plates.{Plate, Values, samePoint, placeOf, among, noted, cornersNoted, pointsOf, valuesAt, valuesOf}
+use Rattle.rules.specs.Plates.{Plate, Values, pointsOf, valuesOf}
 use Rattle.rules.specs.Verdicts.{_unless_, _orElse_, plateVerdict, fieldVerdict, streamVerdict, boundsVerdict, finerVerdict, carryVerdict, valuesVerdict, fills, givesField, givesStream, allNear}
 use Rattle.rules.specs.Written.{finerNumbers, carriedNumbers}
 use Rattle.theory.proofs.Carried.{fields-carried, streams-carried, printed-carried}
@@ -31,8 +30,8 @@ use Rattle.theory.proofs.Corners.{mid}
 use Rattle.theory.proofs.Finenesses.{bracketed}
 use Rattle.theory.proofs.FinerLawful.{finer-lawful}
 use Rattle.theory.proofs.Meetings.{corner-or-middle}
+use Rattle.theory.proofs.Points.{found, corner-listed}
 use Rattle.theory.proofs.ReadBack.{read-as-written, all-marked}
-use Rattle.theory.proofs.Sameness.{point-is, samePoint-from}
 
 -- ---- a verdict of 0
 passed : (n : ℕ) (test : Bool) → 0 < n → n unless test ≡ 0 → test ≡ true
@@ -76,57 +75,6 @@ answers-bracket zs us ss h =
     let field = field-passed zs us (first .0) in
     let stream = stream-passed zs ss (both-pass (plateVerdict zs) _ (field .0) (both-passed (5 unless givesStream m ss) _ (first .1) .0)) in
     bracketed m (plate-passed zs (field .0)) 0 (valuesOf m us) (valuesOf m ss) (field .1) (stream .1)
-
--- ---- values in the order of the points
-found-here : (q : Point) (ps : List Point) (f : Values) (p : Point) → samePoint p q ≡ true → valuesAt (q ∷ ps) (map f (q ∷ ps)) p ≡ f p
-found-here q ps f p t = ap (λ b. getD (map f (q ∷ ps)) (cond (not b) (1 + placeOf p ps) 0) (pos 0)) t ∙ ap f (sym (point-is p q t))
-
-found-later : (q : Point) (ps : List Point) (f : Values) (p : Point) → samePoint p q ≡ false → valuesAt (q ∷ ps) (map f (q ∷ ps)) p ≡ valuesAt ps (map f ps) p
-found-later q ps f p t =
-    let one : 1 + placeOf p ps ≡ suc (placeOf p ps) = omega arith in
-    ap (λ b. getD (map f (q ∷ ps)) (cond (not b) (1 + placeOf p ps) 0) (pos 0)) t ∙ ap (λ n. getD (map f (q ∷ ps)) n (pos 0)) one
-
-found : (ps : List Point) (f : Values) (p : Point) → List·Memᴰ p ps → valuesAt ps (map f ps) p ≡ f p
-found [] f p n = elim n [ ]
-found (q ∷ ps) f p (List·Memᴰ·head e) = found-here q ps f p (samePoint-from p q e)
-found (q ∷ ps) f p (List·Memᴰ·tail n) = ⊎-elim (found-here q ps f p) (λ t. found-later q ps f p t ∙ found ps f p n) (cases-bool (samePoint p q))
-
--- ---- each corner is one of the points
-among-out : (p : Point) (ps : List Point) → among p ps ≡ true → List·Memᴰ p ps
-among-out p [] h = absurd (both-ways (among p []) refl h)
-among-out p (q ∷ ps) h =
-    ⊎-elim (λ t. List·Memᴰ·head (point-is p q t)) (λ t. List·Memᴰ·tail (among-out p ps (fewer t))) (cases-bool (samePoint p q))
-  where
-    fewer : samePoint p q ≡ false → among p ps ≡ true
-    fewer t =
-        let more = ap (λ b. cond (not b) (1 + placeOf p ps) 0) t in
-        let less = ltb-true (placeOf p (q ∷ ps)) (length (q ∷ ps)) h in
-        lt-ltb (placeOf p ps) (length ps) (omega arith)
-
-noted-keeps : (p q : Point) (ps : List Point) → List·Memᴰ p ps → List·Memᴰ p (noted ps q)
-unfolding noted
-noted-keeps p q ps n = cond-both (among q ps) ps (ps ++ q ∷ []) (List·Memᴰ p) (λ t. n) (λ f. Memᴰ·append-left (q ∷ []) n)
-
-noted-there : (q : Point) (ps : List Point) → List·Memᴰ q (noted ps q)
-unfolding noted
-noted-there q ps = cond-both (among q ps) ps (ps ++ q ∷ []) (List·Memᴰ q) (among-out q ps) (λ f. Memᴰ·append-right ps (List·Memᴰ·head refl))
-
-corners-kept : (p : Point) (ps : List Point) (t : Triangle) → List·Memᴰ p ps → List·Memᴰ p (cornersNoted ps t)
-corners-kept p ps t n = noted-keeps p (t .c) _ (noted-keeps p (t .b) _ (noted-keeps p (t .a) ps n))
-
-corner-noted : (ps : List Point) (t : Triangle) (i : Corner) → List·Memᴰ (corner t i) (cornersNoted ps t)
-corner-noted ps t A = noted-keeps (t .a) (t .c) _ (noted-keeps (t .a) (t .b) _ (noted-there (t .a) ps))
-corner-noted ps t B = noted-keeps (t .b) (t .c) _ (noted-there (t .b) _)
-corner-noted ps t C = noted-there (t .c) _
-
-points-kept : (p : Point) (ps : List Point) (ts : List Triangle) → List·Memᴰ p ps → List·Memᴰ p (folded cornersNoted ps ts)
-points-kept p ps [] n = n
-points-kept p ps (t ∷ ts) n = points-kept p (cornersNoted ps t) ts (corners-kept p ps t n)
-
-corner-listed : (ps : List Point) (ts : List Triangle) (t : Triangle) (i : Corner) → List·Memᴰ t ts → List·Memᴰ (corner t i) (folded cornersNoted ps ts)
-corner-listed ps [] t i n = elim n [ ]
-corner-listed ps (s ∷ ts) t i (List·Memᴰ·head e) = points-kept (corner t i) (cornersNoted ps s) ts (subst (λ r. List·Memᴰ (corner t i) (cornersNoted ps r)) e (corner-noted ps t i))
-corner-listed ps (s ∷ ts) t i (List·Memᴰ·tail n) = corner-listed (cornersNoted ps s) ts t i n
 
 -- ---- carried values, written in the order of the finer plate's points, are carried
 -- each of them is a corner of one of the parts

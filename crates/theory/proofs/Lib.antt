@@ -10,6 +10,7 @@ pub mod Finenesses
 pub mod FinerApart
 pub mod FinerEdges
 pub mod FinerLawful
+pub mod Groups
 pub mod Halves
 pub mod Insides
 pub mod Known
@@ -20,6 +21,7 @@ pub mod NotParted
 pub mod Parted
 pub mod Pieces
 pub mod Plane
+pub mod Points
 pub mod Printed
 pub mod ReadBack
 pub mod Rounding

@@ -1,6 +1,6 @@
 //! The theorems, each named in the contract of a function, so that a check asks for its proof.
 ghost use Rattle.rules.specs.Laws.{Cross, Squares, LocalLaw, PartsAlike, RoundedUp, ValuesListed};
-ghost use Rattle.rules.specs.Promises.{Below, FinerLawful, CarriedThere, FieldsCarried, StreamsCarried, HoweverFine, Printed, Between, PrintedCarried, Bracketed, PartedMeans, NotPartedMeans};
+ghost use Rattle.rules.specs.Promises.{Below, FinerLawful, CarriedThere, FieldsCarried, StreamsCarried, HoweverFine, Printed, Between, PrintedCarried, Bracketed, PartedMeans, NotPartedMeans, GroupsJoined, GroupsKept};
 ghost use Rattle.rules.specs.Calls.{ReadAsWritten, AnswersBracket, FinerTaken, CarriedTaken, CarriedFourTimes};
 ghost use Rattle.rules.specs.Table.{TableHolds};
 
@@ -90,6 +90,14 @@ pub fn parted_triangles_share_no_inner_point() -> u8
 /// Two proper triangles that are not parted have an inner point in common.
 pub fn not_parted_triangles_share_an_inner_point() -> u8
     ensures { λ _. ⌜ NotPartedMeans ⌝ }
+{
+    0
+}
+
+/// A group is just the points that closed edges join to one, and a stream with a group changed is a stream.
+pub fn groups_are_joined_points() -> u8
+    ensures joined { λ _. ⌜ GroupsJoined ⌝ }
+    ensures kept { λ _. ⌜ GroupsKept ⌝ }
 {
     0
 }
