@@ -4,26 +4,17 @@ use mathlib.Core.List.{[], _∷_}
 use Prim.Native.Nat.{ℕ, _≤_}
 use native.Mathlib.Omega.{arith}
 use borrow.Author.Differences.{ints}
-use lib.IntN.{ℤ, pos, _+ℤ_, _*ℤ_, negℤ}
+use lib.IntN.{ℤ, pos, _+ℤ_, _*ℤ_}
 use lib.Signed.{_≤ℤ_, _<ℤ_}
 use Rattle.std.proofs.shelf.Signed.{by-ltZ}
 use Rattle.exact.proofs.Ring.{var, con, _⊕_, _⊗_}
 use Rattle.exact.proofs.Certificates.{_≼_, hyp, _⊞_, _⊠_, prove≤}
 
-pub ≤ℤ-trans : {a b c : ℤ} → a ≤ℤ b → b ≤ℤ c → a ≤ℤ c
-≤ℤ-trans {a} {b} {c} h k = omega (arith, ints)
-
-pub ≤ℤ-antisym : {a b : ℤ} → a ≤ℤ b → b ≤ℤ a → a ≡ b
-≤ℤ-antisym {a} {b} h k = omega (arith, ints)
+pub never : pos 1 ≤ℤ pos 0 → ⊥
+never h = h .le
 
 pub ≤ℤ-of-≡ : {a b : ℤ} → a ≡ b → a ≤ℤ b
 ≤ℤ-of-≡ {a} {b} e = omega (arith, ints)
-
-pub ≤ℤ-+ : {a b c d : ℤ} → a ≤ℤ b → c ≤ℤ d → (a +ℤ c) ≤ℤ (b +ℤ d)
-≤ℤ-+ {a} {b} {c} {d} h k = omega (arith, ints)
-
-pub ≤ℤ-neg : {a b : ℤ} → a ≤ℤ b → negℤ b ≤ℤ negℤ a
-≤ℤ-neg {a} {b} h = omega (arith, ints)
 
 -- below is one more and at most
 pub one-more : {a b : ℤ} → a <ℤ b → (pos 1 +ℤ a) ≤ℤ b
@@ -49,6 +40,3 @@ pub *ℤ-cancel-≤ℤ : (c : ℤ) {a b : ℤ} → pos 1 ≤ℤ c → (c *ℤ a)
   where
     pos′ : ℕ → Rattle.exact.proofs.Ring.Expr
     pos′ n = con (pos n)
-
-    never : pos 1 ≤ℤ pos 0 → ⊥
-    never h = h .le

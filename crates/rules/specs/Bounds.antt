@@ -41,7 +41,8 @@ work s bs = sumZ (workAlong s) bs
 abbrev pub lower : Values → Plate → ℤ
 lower s m = work s (m .outline) -ℤ pos (upDrag s (m .triangles))
 
--- ---- the plates and values whose numbers are computed: all parts are in reach, and the sum of quotients is below 2^62
+-- ---- the plates and values whose numbers are computed as long as plates are not checked: all parts are in reach, and the sums of quotients
+-- are below 2^62
 abbrev pub allInReach : Values → List Triangle → Bool
 allInReach u ts = every (λ t. inReach t (cornersOf u t)) ts
 

@@ -13,15 +13,15 @@ use Rattle.rules.specs.Written.{written, finerNumbers, carriedNumbers}
 abbrev pub ReadAsWritten : Type 0
 ReadAsWritten = (m : Plate) → plateOf (written m) ≡ m
 
--- WHAT `bounds` ANSWERS BRACKETS the heat that goes through the plate
+-- THE TWO NUMBERS BRACKET the heat that goes through the plate, where plate, field and stream are not refused
 abbrev pub AnswersBracket : Type 0
 AnswersBracket = (zs us ss : List ℤ) → boundsVerdict zs us ss ≡ 0 → Brackets (plateOf zs) (lowerOf zs ss) (upperOf zs us)
 
--- a finer plate that is not refused is taken by every call
+-- a finer plate that is not refused is lawful and within the limits of a plate
 abbrev pub FinerTaken : Type 0
 FinerTaken = (zs : List ℤ) (room : ℕ) → finerVerdict zs room ≡ 0 → plateVerdict (finerNumbers zs) ≡ 0
 
--- and so are the values carried to it, as a field or as a stream
+-- values carried to it that are not refused are a field, or a stream, there
 abbrev pub CarriedTaken : Type 0
 CarriedTaken =
     (zs us : List ℤ) (kind room room′ : ℕ) → finerVerdict zs room ≡ 0 → carryVerdict zs us kind room′ ≡ 0 → valuesVerdict kind (finerNumbers zs) (carriedNumbers zs us) ≡ 0

@@ -49,11 +49,11 @@ vector p q = record { x = q .x -ℤ p .x; y = q .y -ℤ p .y }
 abbrev pub direction : Edge → Vector
 direction e = vector (e .from) (e .to)
 
--- how far r lies across the direction d, to its left, in units of d's length
+-- how far r lies to the left of the line through 0 in the direction d, times d's length
 unfoldable pub across : Vector → Point → ℤ
 across d r = (d .x *ℤ r .y) -ℤ (d .y *ℤ r .x)
 
--- how far r lies along it
+-- how far r lies along that line, times d's length
 unfoldable pub along : Vector → Point → ℤ
 along d r = (d .x *ℤ r .x) +ℤ (d .y *ℤ r .y)
 

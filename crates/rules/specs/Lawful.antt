@@ -34,7 +34,7 @@ times e es = count (sameEdge e) es
 unfoldable pub paired : Plate → Edge → Bool
 paired m e = eqb (times e (edges (m .triangles))) 1 && eqb (times (back e) (edges (m .triangles)) + times e (outlineEdges m)) 1
 
--- an edge of the outline is the edge of just one triangle, and stands there once
+-- an edge of the outline is the edge of just one triangle, and stands in the outline once
 unfoldable pub outlined : Plate → Edge → Bool
 outlined m e = eqb (times e (edges (m .triangles))) 1 && eqb (times e (outlineEdges m)) 1
 

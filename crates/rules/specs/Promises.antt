@@ -72,11 +72,12 @@ PrintedCarried =
     (upper v (finer m .triangles) ≡ 4 * upper u (m .triangles)) × (upDrag v (finer m .triangles) ≡ 4 * upDrag u (m .triangles)) ×
     (work v (finer m .outline) ≡ pos 4 *ℤ work u (m .outline)) × (lower v (finer m) ≡ pos 4 *ℤ lower u m)
 
--- low and high, found when the plate m was i times finer, bracket the heat that goes through it: at every fineness n each field spends at
--- least low, and each stream says at most high, to scale
+-- low and high, found when the plate m was i times finer, bracket the heat that goes through it. To scale: at every fineness n no field
+-- spends less than low, and no stream says more than high; and from fineness i on some field spends at most high
 pub record BracketsAt (i : ℕ) (m : Plate) (low high : ℤ) : Type 0 where
   pub fields : (n : ℕ) (u : Values) → isField u (finest n m) ≡ true → whole (scale n *ℤ low) ≤F scaled (scale i) (spent u (finest n m .triangles))
   pub streams : (n : ℕ) (s : Values) → isStream s (finest n m) ≡ true → scaled (scale i) (says s (finest n m)) ≤F whole (scale n *ℤ high)
+  pub reached : (n : ℕ) → (u : Values) × (isField u (finest n (finest i m)) ≡ true) × (spent u (finest n (finest i m) .triangles) ≤F whole (scale n *ℤ high))
 
 -- found on the plate itself
 abbrev pub Brackets : Plate → ℤ → ℤ → Type 0
@@ -90,18 +91,18 @@ Bracketed =
 
 -- ---- what it means to be parted
 -- z lies strictly inside t, coordinates of z being N times as fine: to the left of each edge
-abbrev pub Strictly : ℕ → Triangle → Point → Type 0
-Strictly N t z = (i : Corner) → let d = direction (edge t i) in (pos N *ℤ across d (corner t i)) <ℤ across d z
+abbrev pub InnerPoint : ℕ → Triangle → Point → Type 0
+InnerPoint N t z = (i : Corner) → let d = direction (edge t i) in (pos N *ℤ across d (corner t i)) <ℤ across d z
 
 -- two parted triangles have no inner point in common, at any scale
 abbrev pub PartedMeans : Type 0
 PartedMeans =
-    (s t : Triangle) → proper s ≡ true → proper t ≡ true → parted s t ≡ true → (N : ℕ) → 0 < N → (z : Point) → Strictly N s z → Strictly N t z → ⊥
+    (s t : Triangle) → proper s ≡ true → proper t ≡ true → parted s t ≡ true → (N : ℕ) → 0 < N → (z : Point) → InnerPoint N s z → InnerPoint N t z → ⊥
 
 -- and two proper triangles that are not parted have one, at some scale
 abbrev pub NotPartedMeans : Type 0
 NotPartedMeans =
-    (s t : Triangle) → proper s ≡ true → proper t ≡ true → parted s t ≡ false → (N : ℕ) × (0 < N) × (z : Point) × Strictly N s z × Strictly N t z
+    (s t : Triangle) → proper s ≡ true → proper t ≡ true → parted s t ≡ false → (N : ℕ) × (0 < N) × (z : Point) × InnerPoint N s z × InnerPoint N t z
 
 -- ---- what it means to be of one group
 -- closed edges join q to p: whatever marks p, and is the same at both ends of each closed edge, marks q
@@ -115,3 +116,7 @@ GroupsJoined = (m : Plate) (p q : Point) → (among q (group m p) ≡ true → J
 -- a stream with a group changed is a stream
 abbrev pub GroupsKept : Type 0
 GroupsKept = (m : Plate) (s : Values) (p : Point) (d : ℤ) → isStream s m ≡ true → isStream (changedAll s (group m p) d) m ≡ true
+
+-- and at all its points a stream has one value
+abbrev pub GroupsAlike : Type 0
+GroupsAlike = (m : Plate) (s : Values) (p q : Point) → isStream s m ≡ true → among q (group m p) ≡ true → s q ≡ s p

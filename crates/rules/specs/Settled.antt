@@ -34,6 +34,7 @@ admitted m p v = isField v m && (near (2 ^ 20) (v p) && upperWithin v m)
 unfoldable pub resists : Plate → Values → Point → ℤ → Bool
 resists m u p d = let v = changed u p d in not (admitted m p v) || leb (upper u (m .triangles)) (upper v (m .triangles))
 
+-- of a field that is not refused: no admitted change betters it
 unfoldable pub settled : List ℤ → List ℤ → Bool
 settled zs us = let m = plateOf zs in every (λ p. every (resists m (valuesOf m us) p) ones) (pointsOf (m .triangles))
 
@@ -60,6 +61,7 @@ admittedStream m p v = isStream v m && (near (2 ^ 20) (v p) && dragWithin v m)
 unfoldable pub resistsStream : Plate → Values → Point → ℤ → Bool
 resistsStream m s p d = let v = changedAll s (group m p) d in not (admittedStream m p v) || leZ (lower v m) (lower s m)
 
+-- of a stream that is not refused: no admitted change of a group betters it
 unfoldable pub settledStream : List ℤ → List ℤ → Bool
 settledStream zs ss = let m = plateOf zs in every (λ p. every (resistsStream m (valuesOf m ss) p) ones) (pointsOf (m .triangles))
 

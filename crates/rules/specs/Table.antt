@@ -115,8 +115,8 @@ RowD =
     (upperOf cross (fallingVia 0) ≡ pos 512)
 
 -- ---- what is refused
-abbrev pub around : Point → Point → Point → List (List ℤ)
-around a b c = closed a b ∷ closed b c ∷ closed c a ∷ []
+abbrev pub closedAround : Point → Point → Point → List (List ℤ)
+closedAround a b c = closed a b ∷ closed b c ∷ closed c a ∷ []
 
 abbrev pub west : Point
 west = record { x = minus 2; y = pos 0 }
@@ -128,7 +128,7 @@ south = record { x = pos 0; y = minus 3 }
 abbrev pub touching : List ℤ
 touching =
     plate (triangle (at 0 0) (at 4 0) (at 0 4) 1 ∷ triangle (at 2 0) west south 1 ∷ [])
-    (around (at 0 0) (at 4 0) (at 0 4) ++ around (at 2 0) west south)
+    (closedAround (at 0 0) (at 4 0) (at 0 4) ++ closedAround (at 2 0) west south)
 
 -- both sides held, the bottom closed, the top missing
 abbrev pub openSides : List (List ℤ)
@@ -149,14 +149,14 @@ abbrev pub RowF : Type 0
 RowF = boundsVerdict (square 1 1 32768 (2 ^ 20)) (falling (2 ^ 20)) still ≡ 6
 
 -- ---- a triangle whose corners are held at 3, 5 and 10: both temperatures of an edge count, and quotients are rounded up, not to nearest
-abbrev pub corner : List ℤ
-corner =
+abbrev pub heldCorner : List ℤ
+heldCorner =
     plate (triangle (at 0 0) (at 2 0) (at 0 2) 3 ∷ [])
     (heldAt (at 0 0) (at 2 0) 3 5 ∷ heldAt (at 2 0) (at 0 2) 5 10 ∷ heldAt (at 0 2) (at 0 0) 10 3 ∷ [])
 
 abbrev pub Slanted : Type 0
 Slanted =
-    (boundsVerdict corner (three 3 5 10) (three 0 2 4) ≡ 0) × (upperOf corner (three 3 5 10) ≡ pos 81) × (lowerOf corner (three 0 2 4) ≡ minus 10)
+    (boundsVerdict heldCorner (three 3 5 10) (three 0 2 4) ≡ 0) × (upperOf heldCorner (three 3 5 10) ≡ pos 81) × (lowerOf heldCorner (three 0 2 4) ≡ minus 10)
 
 -- ---- each part of what is lawful, broken alone
 pub data Law : Type 0 where
@@ -183,7 +183,7 @@ BreaksOnly zs law = (plateVerdict zs ≡ 3) × (broken zs ≡ law ∷ [])
 
 -- one triangle, named with the clock
 abbrev pub clockwise : List ℤ
-clockwise = plate (triangle (at 0 0) (at 0 1) (at 1 0) 1 ∷ []) (around (at 0 0) (at 0 1) (at 1 0))
+clockwise = plate (triangle (at 0 0) (at 0 1) (at 1 0) 1 ∷ []) (closedAround (at 0 0) (at 0 1) (at 1 0))
 
 -- both sides of an edge between two triangles are in the outline
 abbrev pub slit : List ℤ
@@ -202,13 +202,13 @@ twoTemperatures =
 abbrev pub star : List ℤ
 star =
     plate (triangle (at 0 2) (at 6 2) (at 3 8) 1 ∷ triangle (at 3 0) (at 6 6) (at 0 6) 1 ∷ [])
-    (around (at 0 2) (at 6 2) (at 3 8) ++ around (at 3 0) (at 6 6) (at 0 6))
+    (closedAround (at 0 2) (at 6 2) (at 3 8) ++ closedAround (at 3 0) (at 6 6) (at 0 6))
 
 -- two triangles beside a third, which has their common corner in the middle of its edge
 abbrev pub hanging : List ℤ
 hanging =
     plate (triangle (at 0 2) (at 4 2) (at 0 6) 1 ∷ triangle (at 0 2) (at 2 0) (at 2 2) 1 ∷ triangle (at 2 2) (at 2 0) (at 4 2) 1 ∷ [])
-    (around (at 0 2) (at 4 2) (at 0 6) ++ closed (at 0 2) (at 2 0) ∷ closed (at 2 0) (at 4 2) ∷ closed (at 4 2) (at 2 2) ∷ closed (at 2 2) (at 0 2) ∷ [])
+    (closedAround (at 0 2) (at 4 2) (at 0 6) ++ closed (at 0 2) (at 2 0) ∷ closed (at 2 0) (at 4 2) ∷ closed (at 4 2) (at 2 2) ∷ closed (at 2 2) (at 0 2) ∷ [])
 
 abbrev pub LawsAlone : Type 0
 LawsAlone =
@@ -222,7 +222,7 @@ withOutline outline = plate (twoHalves 1 1 1) outline
 abbrev pub PlateLimits : Type 0
 PlateLimits =
     (plateVerdict [] ≡ 1) × (plateVerdict (counted 0 4 (sides 1 16)) ≡ 1) × (plateVerdict (unit ++ pos 0 ∷ []) ≡ 1) ×
-    (plateVerdict (withOutline (edgeOfKind 2 (at 0 1) (at 0 0) 16 16 ∷ [])) ≡ 1) ×
+    (plateVerdict (withOutline (edgeOfKind 2 (at 0 1) (at 0 0) 16 16 ∷ [])) ≡ 1) × (plateVerdict (withOutline ((minus 1 ∷ map pos (0 ∷ 1 ∷ 0 ∷ 0 ∷ 0 ∷ 0 ∷ [])) ∷ [])) ≡ 1) ×
     (plateVerdict (square 1 1 32768 16) ≡ 0) × (plateVerdict (square 1 1 32769 16) ≡ 2) ×
     (plateVerdict (withOutline (closed (at 32769 0) (at 0 0) ∷ [])) ≡ 2) × (plateVerdict (withOutline (heldAt (at 0 0) (at 0 32769) 0 0 ∷ [])) ≡ 2) ×
     (plateVerdict (square 1 4095 1 16) ≡ 0) × (plateVerdict (square 1 4096 1 16) ≡ 2) × (plateVerdict (square 1 1 1 (2 ^ 20)) ≡ 0) ×
@@ -240,21 +240,31 @@ cold a b c = heldAt a b 0 0 ∷ heldAt b c 0 0 ∷ heldAt c a 0 0 ∷ []
 abbrev pub tip : ℕ → List ℤ
 tip n = three 0 0 n
 
+-- a thinner one, whose drags add up when it is made finer
+abbrev pub sliver : List ℤ
+sliver = plate (triangle (at 0 0) (at 8192 1) (at 8191 1) 1 ∷ []) (cold (at 0 0) (at 8192 1) (at 8191 1))
+
+abbrev pub finerTwice : List ℤ → List ℤ
+finerTwice zs = finerNumbers (finerNumbers zs)
+
+abbrev pub carriedTwice : List ℤ → List ℤ → List ℤ
+carriedTwice zs us = carriedNumbers (finerNumbers zs) (carriedNumbers zs us)
+
 abbrev pub ValueLimits : Type 0
 ValueLimits =
     (fieldVerdict unit (three 16 0 0) ≡ 4) × (fieldVerdict unit (falling 16 ++ pos 0 ∷ []) ≡ 4) ×
     (fieldVerdict cross (fallingVia (2 ^ 20)) ≡ 0) × (fieldVerdict cross (fallingVia (2 ^ 20 + 1)) ≡ 4) ×
     (streamVerdict unit (three 0 0 0) ≡ 5) × (streamVerdict unit (still ++ pos 0 ∷ []) ≡ 5) ×
     (streamVerdict unit (flow (2 ^ 20)) ≡ 0) × (streamVerdict unit (flow (2 ^ 20 + 1)) ≡ 5) ×
-    -- the first refusal that applies
-    (boundsVerdict (square 0 1 1 16) still (tip 1) ≡ 3) × (boundsVerdict unit still (tip 1) ≡ 4) ×
     -- a turned gradient of 2^30
     (settleVerdict (square 1 1 32768 (2 ^ 15)) (falling (2 ^ 15)) ≡ 6) × (settleVerdict (square 1 1 32768 (2 ^ 15 - 1)) (falling (2 ^ 15 - 1)) ≡ 0) ×
     (settleStreamVerdict (square 1 1 32768 0) (flow (2 ^ 15)) ≡ 6) × (settleStreamVerdict (square 1 1 32768 0) (flow (2 ^ 15 - 1)) ≡ 0) ×
     (boundsVerdict (square 1 1 32768 0) still (flow (2 ^ 15)) ≡ 6) ×
-    -- an upper number of 2^62, where nothing is too steep; the drag of the same values is far below
-    (settleVerdict (thin around 4095) (tip (2 ^ 14)) ≡ 6) × (settleVerdict (thin around 1) (tip (2 ^ 14)) ≡ 0) ×
-    (settleStreamVerdict (thin cold 4095) (tip (2 ^ 14)) ≡ 0)
+    -- an upper number just below 2^62 and one above, where nothing is too steep; the drag of the same values is far below
+    (settleVerdict (thin closedAround 31) (tip (2 ^ 14)) ≡ 0) × (settleVerdict (thin closedAround 32) (tip (2 ^ 14)) ≡ 6) ×
+    (settleStreamVerdict (thin cold 32) (tip (2 ^ 14)) ≡ 0) ×
+    -- a sum of rounded drags just below 2^62 and one above
+    (settleStreamVerdict (finerTwice sliver) (carriedTwice sliver (tip 92681)) ≡ 0) × (settleStreamVerdict (finerTwice sliver) (carriedTwice sliver (tip 92682)) ≡ 6)
 
 -- ---- finer plates and carried values
 abbrev pub wedge : List ℤ
@@ -309,7 +319,7 @@ SettledFields =
     -- a change that leaves the number as it is betters nothing
     (settled (plate quarters (sides 2 1)) (map pos (1 ∷ 0 ∷ 0 ∷ 0 ∷ 1 ∷ [])) ≡ true) ×
     (settled (plate quarters (sides 2 1)) (map pos (1 ∷ 0 ∷ 1 ∷ 0 ∷ 1 ∷ [])) ≡ true) ×
-    (noMore cross (fallingVia 7) (fallingVia 8) ≡ true) × (noMore cross (fallingVia 8) (fallingVia 7) ≡ false)
+    (noMore cross (fallingVia 7) (fallingVia 8) ≡ true) × (noMore cross (fallingVia 8) (fallingVia 7) ≡ false) × (noMore cross (fallingVia 8) (fallingVia 8) ≡ true)
 
 -- closed on three sides, each of them named before the one that joins it to (0, 0)
 abbrev pub pocket : List ℤ
@@ -335,7 +345,15 @@ SettledStreams =
     (settledStream (square 4095 4095 1024 1024) (flow (2 ^ 20 - 1)) ≡ true) × (settledStream (square 4095 4095 1024 1024) (flow (2 ^ 20 - 2)) ≡ false) ×
     -- a change that leaves the number as it is betters nothing
     (settledStream (square 3 3 1 1) (flow 2) ≡ true) × (lowerOf (square 3 3 1 1) (flow 2) ≡ pos 2) × (lowerOf (square 3 3 1 1) (flow 3) ≡ pos 2) ×
-    (noLess unit still (flow 16) ≡ true) × (noLess unit (flow 16) still ≡ false)
+    (noLess unit still (flow 16) ≡ true) × (noLess unit (flow 16) still ≡ false) × (noLess unit (flow 16) (flow 16) ≡ true)
+
+-- ---- of two refusals that apply, the first one in the order of the rules
+abbrev pub FirstRefusals : Type 0
+FirstRefusals =
+    (settleVerdict (square 0 1 1 16) still ≡ 3) × (settleStreamVerdict (square 0 1 1 16) still ≡ 3) ×
+    (settleVerdict (square 1 1 32768 0) (falling (2 ^ 15)) ≡ 4) × (settleStreamVerdict (square 1 1 32768 0) (four 0 0 (2 ^ 15) 0) ≡ 5) ×
+    (boundsVerdict (square 0 1 1 16) still (tip 1) ≡ 3) × (boundsVerdict unit still (tip 1) ≡ 4) × (boundsVerdict (square 1 1 32768 0) still (four 0 0 (2 ^ 15) 0) ≡ 5) ×
+    (finerVerdict (square 0 1 1 16) 113 ≡ 3) × (carryVerdict (square 0 1 1 16) still 1 8 ≡ 3) × (carryVerdict unit still 0 8 ≡ 4)
 
 -- THE TABLE
 pub record TableHolds : Type 0 where
@@ -352,3 +370,4 @@ pub record TableHolds : Type 0 where
   pub finer-and-carried : FinerAndCarried
   pub settled-fields : SettledFields
   pub settled-streams : SettledStreams
+  pub first-refusals : FirstRefusals

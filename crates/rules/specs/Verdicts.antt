@@ -12,7 +12,7 @@ use Rattle.rules.specs.Finer.{finer}
 use Rattle.rules.specs.Lawful.{lawful}
 use Rattle.rules.specs.Limits.{near, counts, allMarked, modestPlate}
 use Rattle.rules.specs.Numbers.{plateOf}
-use Rattle.rules.specs.Plates.{Plate, pointsOf, valuesOf}
+use Rattle.rules.specs.Plates.{Plate, Values, pointsOf, valuesOf}
 use Rattle.rules.specs.Within.{upperWithin, dragWithin}
 use Rattle.rules.specs.Written.{finerNumbers, carriedNumbers}
 
@@ -41,17 +41,15 @@ allNear zs = every (near (2 ^ 20)) zs
 unfoldable pub fills : Plate → List ℤ → Bool
 fills m zs = eqb (length zs) (length (pointsOf (m .triangles))) && allNear zs
 
-unfoldable pub givesField : Plate → List ℤ → Bool
-givesField m us = fills m us && isField (valuesOf m us) m
-
-unfoldable pub givesStream : Plate → List ℤ → Bool
-givesStream m ss = fills m ss && isStream (valuesOf m ss) m
+-- and they pass a test of values on the plate: of being a field, or a stream
+unfoldable pub gives : (Values → Plate → Bool) → Plate → List ℤ → Bool
+gives test m us = fills m us && test (valuesOf m us) m
 
 unfoldable pub fieldVerdict : List ℤ → List ℤ → ℕ
-fieldVerdict zs us = plateVerdict zs orElse 4 unless givesField (plateOf zs) us
+fieldVerdict zs us = plateVerdict zs orElse 4 unless gives isField (plateOf zs) us
 
 unfoldable pub streamVerdict : List ℤ → List ℤ → ℕ
-streamVerdict zs ss = plateVerdict zs orElse 5 unless givesStream (plateOf zs) ss
+streamVerdict zs ss = plateVerdict zs orElse 5 unless gives isStream (plateOf zs) ss
 
 -- ---- the two numbers
 abbrev pub upperOf : List ℤ → List ℤ → ℤ
@@ -64,7 +62,7 @@ unfoldable pub boundsVerdict : List ℤ → List ℤ → List ℤ → ℕ
 boundsVerdict zs us ss =
     let m = plateOf zs in
     fieldVerdict zs us orElse
-    5 unless givesStream m ss orElse
+    5 unless gives isStream m ss orElse
     6 unless upperWithin (valuesOf m us) m && dragWithin (valuesOf m ss) m
 
 -- ---- settling

@@ -22,7 +22,7 @@ use Rattle.rules.specs.Limits.{counts, allMarked, modestPlate}
 use Rattle.rules.specs.Numbers.{plateOf}
 use Rattle.rules.specs.Parts.{Part, atA, atB, atC, between, middle, twice, part}
 use Rattle.rules.specs.Plates.{Plate, Values, pointsOf, valuesOf}
-use Rattle.rules.specs.Verdicts.{_unless_, _orElse_, plateVerdict, fieldVerdict, streamVerdict, boundsVerdict, finerVerdict, carryVerdict, valuesVerdict, fills, givesField, givesStream, allNear}
+use Rattle.rules.specs.Verdicts.{_unless_, _orElse_, plateVerdict, fieldVerdict, streamVerdict, boundsVerdict, finerVerdict, carryVerdict, valuesVerdict, fills, gives, allNear}
 use Rattle.rules.specs.Written.{finerNumbers, carriedNumbers}
 use Rattle.theory.proofs.Carried.{fields-carried, streams-carried, printed-carried}
 use Rattle.theory.proofs.Carries.{carried-there}
@@ -54,26 +54,24 @@ plate-passed zs h =
     let rest = both-passed (1 unless counts zs && allMarked zs) _ h .1 in
     passed 3 (lawful (plateOf zs)) (omega arith) (both-passed (2 unless modestPlate (plateOf zs)) _ rest .1)
 
-field-passed : (zs us : List ℤ) → fieldVerdict zs us ≡ 0 → (plateVerdict zs ≡ 0) × (isField (valuesOf (plateOf zs) us) (plateOf zs) ≡ true)
-unfolding fieldVerdict givesField
-field-passed zs us h =
-    let both = both-passed (plateVerdict zs) (4 unless givesField (plateOf zs) us) h in
-    (both .0, and-parts (fills (plateOf zs) us) _ (passed 4 (givesField (plateOf zs) us) (omega arith) (both .1)) .1)
+-- the verdict on values that are to pass a test
+judged : (n : ℕ) (test : Values → Plate → Bool) → List ℤ → List ℤ → ℕ
+judged n test zs us = plateVerdict zs orElse n unless gives test (plateOf zs) us
 
-stream-passed : (zs ss : List ℤ) → streamVerdict zs ss ≡ 0 → (plateVerdict zs ≡ 0) × (isStream (valuesOf (plateOf zs) ss) (plateOf zs) ≡ true)
-unfolding streamVerdict givesStream
-stream-passed zs ss h =
-    let both = both-passed (plateVerdict zs) (5 unless givesStream (plateOf zs) ss) h in
-    (both .0, and-parts (fills (plateOf zs) ss) _ (passed 5 (givesStream (plateOf zs) ss) (omega arith) (both .1)) .1)
+judged-passed : (n : ℕ) (test : Values → Plate → Bool) → 0 < n → (zs us : List ℤ) → judged n test zs us ≡ 0 → (plateVerdict zs ≡ 0) × (test (valuesOf (plateOf zs) us) (plateOf zs) ≡ true)
+unfolding judged gives
+judged-passed n test above zs us h =
+    let both = both-passed (plateVerdict zs) (n unless gives test (plateOf zs) us) h in
+    (both .0, and-parts (fills (plateOf zs) us) _ (passed n (gives test (plateOf zs) us) above (both .1)) .1)
 
 -- ---- the two numbers
 pub answers-bracket : AnswersBracket
-unfolding boundsVerdict streamVerdict finest
+unfolding boundsVerdict fieldVerdict judged finest
 answers-bracket zs us ss h =
     let m = plateOf zs in
     let first = both-passed (fieldVerdict zs us) _ h in
-    let field = field-passed zs us (first .0) in
-    let stream = stream-passed zs ss (both-pass (plateVerdict zs) _ (field .0) (both-passed (5 unless givesStream m ss) _ (first .1) .0)) in
+    let field = judged-passed 4 isField (omega arith) zs us (first .0) in
+    let stream = judged-passed 5 isStream (omega arith) zs ss (both-pass (plateVerdict zs) _ (field .0) (both-passed (5 unless gives isStream m ss) _ (first .1) .0)) in
     bracketed m (plate-passed zs (field .0)) 0 (valuesOf m us) (valuesOf m ss) (field .1) (stream .1)
 
 -- ---- carried values, written in the order of the finer plate's points, are carried
@@ -151,36 +149,29 @@ carried-fill zs us near =
     length-map (pointsOf (finer m .triangles)) (carried (valuesOf m us) m) ∙ ap (λ n. length (pointsOf (n .triangles))) (sym (finer-read zs)) in
     and-from (eqb (length cs) (length (pointsOf (plateOf (finerNumbers zs) .triangles)))) (allNear cs) (eq-eqb _ _ long) near
 
--- a test of values on the plate that the finer one's numbers are read as
-read-there : (test : Values → Plate → Bool) (zs cs : List ℤ) → test (valuesOf (finer (plateOf zs)) cs) (finer (plateOf zs)) ≡ true → test (valuesOf (plateOf (finerNumbers zs)) cs) (plateOf (finerNumbers zs)) ≡ true
-read-there test zs cs h = ap (λ n. test (valuesOf n cs) n) (finer-read zs) ∙ h
-
-field-taken : (zs us : List ℤ) → plateVerdict (finerNumbers zs) ≡ 0 → fieldVerdict zs us ≡ 0 → allNear (carriedNumbers zs us) ≡ true → fieldVerdict (finerNumbers zs) (carriedNumbers zs us) ≡ 0
-unfolding fieldVerdict givesField
-field-taken zs us plate h near =
-    let field = field-passed zs us h in
-    let ok = plate-passed zs (field .0) in
-    let is = fields-carried (plateOf zs) ok (valuesOf (plateOf zs) us) _ (carried-written zs us ok) (field .1) .0 in
-    both-pass (plateVerdict (finerNumbers zs)) _ plate
-    (passes 4 (givesField (plateOf (finerNumbers zs)) (carriedNumbers zs us)) (and-from (fills (plateOf (finerNumbers zs)) (carriedNumbers zs us)) _ (carried-fill zs us near) (read-there isField zs (carriedNumbers zs us) is)))
-
-stream-taken : (zs ss : List ℤ) → plateVerdict (finerNumbers zs) ≡ 0 → streamVerdict zs ss ≡ 0 → allNear (carriedNumbers zs ss) ≡ true → streamVerdict (finerNumbers zs) (carriedNumbers zs ss) ≡ 0
-unfolding streamVerdict givesStream
-stream-taken zs ss plate h near =
-    let stream = stream-passed zs ss h in
-    let ok = plate-passed zs (stream .0) in
-    let is = streams-carried (plateOf zs) ok (valuesOf (plateOf zs) ss) _ (carried-written zs ss ok) (stream .1) .0 in
-    both-pass (plateVerdict (finerNumbers zs)) _ plate
-    (passes 5 (givesStream (plateOf (finerNumbers zs)) (carriedNumbers zs ss)) (and-from (fills (plateOf (finerNumbers zs)) (carriedNumbers zs ss)) _ (carried-fill zs ss near) (read-there isStream zs (carriedNumbers zs ss) is)))
+-- what is carried from values that pass a test, and passes it there, is not refused there
+judged-there : (n : ℕ) (test : Values → Plate → Bool) (zs us : List ℤ) → 0 < n →
+    ((m : Plate) → lawful m ≡ true → (u v : Values) → Carried u v m → test u m ≡ true → test v (finer m) ≡ true) →
+    plateVerdict (finerNumbers zs) ≡ 0 → allNear (carriedNumbers zs us) ≡ true → judged n test zs us ≡ 0 → judged n test (finerNumbers zs) (carriedNumbers zs us) ≡ 0
+unfolding judged gives
+judged-there n test zs us above carry plate near h =
+    let ns = finerNumbers zs in
+    let cs = carriedNumbers zs us in
+    let before = judged-passed n test above zs us h in
+    let ok = plate-passed zs (before .0) in
+    let after : test (valuesOf (plateOf ns) cs) (plateOf ns) ≡ true =
+    ap (λ m. test (valuesOf m cs) m) (finer-read zs) ∙ carry (plateOf zs) ok (valuesOf (plateOf zs) us) _ (carried-written zs us ok) (before .1) in
+    both-pass (plateVerdict ns) _ plate (passes n (gives test (plateOf ns) cs) (and-from (fills (plateOf ns) cs) _ (carried-fill zs us near) after))
 
 pub carried-taken : CarriedTaken
-unfolding carryVerdict
+unfolding carryVerdict fieldVerdict streamVerdict judged
 carried-taken zs us kind room room′ finer-given h =
     let cs = carriedNumbers zs us in
     let plate = finer-taken zs room finer-given in
     let first = both-passed (1 unless ltb kind 2) _ h in
     let second = both-passed (valuesVerdict kind zs us) _ (first .1) in
     let near = passed (4 + kind) (allNear cs) (omega arith) (both-passed (7 unless eqb room′ (length cs)) _ (second .1) .1) in
-    ⊎-elim
-    (λ t. cond-true (eqb kind 0) _ _ t ∙ field-taken zs us plate (sym (cond-true (eqb kind 0) (fieldVerdict zs us) (streamVerdict zs us) t) ∙ second .0) near)
-    (λ f. cond-false (eqb kind 0) _ _ f ∙ stream-taken zs us plate (sym (cond-false (eqb kind 0) (fieldVerdict zs us) (streamVerdict zs us) f) ∙ second .0) near) (cases-bool (eqb kind 0))
+    let field = judged-there 4 isField zs us (omega arith) (λ m ok u v carried is. fields-carried m ok u v carried is .0) plate near in
+    let stream = judged-there 5 isStream zs us (omega arith) (λ m ok u v carried is. streams-carried m ok u v carried is .0) plate near in
+    ⊎-elim (λ t. cond-true (eqb kind 0) _ _ t ∙ field (sym (cond-true (eqb kind 0) (fieldVerdict zs us) (streamVerdict zs us) t) ∙ second .0))
+    (λ f. cond-false (eqb kind 0) _ _ f ∙ stream (sym (cond-false (eqb kind 0) (fieldVerdict zs us) (streamVerdict zs us) f) ∙ second .0)) (cases-bool (eqb kind 0))

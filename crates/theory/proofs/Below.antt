@@ -23,7 +23,7 @@ use Rattle.rules.specs.Promises.{Below}
 use Rattle.rules.specs.Triangles.{spentIn, dragIn, exchange, around}
 use Rattle.theory.proofs.Cancel.{cancel}
 use Rattle.theory.proofs.Facts.{Facts, facts}
-use Rattle.theory.proofs.Known.{proper-at, field-at, stream-at}
+use Rattle.theory.proofs.Known.{field-at, stream-at}
 use Rattle.theory.proofs.Triangles.{local-law}
 
 -- ---- the exchange along an edge
@@ -75,7 +75,7 @@ below m ok u s field stream =
     let spends : Triangle → Fraction = λ t. spentIn t (cornersOf u t) in
     let drags : Triangle → Fraction = λ t. dragIn t (cornersOf s t) in
     let both : Triangle → Fraction = λ t. spends t +F drags t in
-    let each : sumF exchanged ts ≤F sumF both ts = sumF-≤F exchanged both ts (λ t at. local-law t (proper-at m ok t at) (cornersOf u t) (cornersOf s t)) in
+    let each : sumF exchanged ts ≤F sumF both ts = sumF-≤F exchanged both ts (λ t at. local-law t (facts m ok .is-proper t at) (cornersOf u t) (cornersOf s t)) in
     let total = sumF-whole (λ t. around (cornersOf u t) (cornersOf s t)) ts ∙ ap whole (all-work u s m field stream (facts m ok)) in
     ≤F-move (whole (work s (m .outline))) (sumF spends ts) (sumF drags ts)
     (subst (λ p. p ≤F (sumF spends ts +F sumF drags ts)) total (subst (λ q. sumF exchanged ts ≤F q) (sumF-+F spends drags ts) each))

@@ -8,11 +8,11 @@ use lib.Signed.{_≤ℤ_, _<ℤ_}
 use Rattle.std.proofs.shelf.Signed.{by-ltZ}
 use Rattle.exact.proofs.Certificates.{_≼_, hyp, lit, _⊞_, _⊠_, prove≤}
 use Rattle.exact.proofs.Mixes.{Mix, alone, mixed}
-use Rattle.exact.proofs.Order.{one-more, below}
+use Rattle.exact.proofs.Order.{never, one-more, below}
 use Rattle.exact.proofs.Ring.{Expr, var, con, _⊕_, _⊗_, _⊝_, solve}
 use Rattle.rules.specs.Edges.{Corner, A, B, C, next}
 use Rattle.theory.proofs.Corners.{prev, thrice}
-use Rattle.theory.proofs.Plane.{never, product-above}
+use Rattle.theory.proofs.Plane.{product-above}
 use Rattle.theory.proofs.Threes.{near, highest, sum}
 
 -- ---- a way from (x, y) by (x′, y′) to (x″, y″) that turns left: where it ends up to the left it does not fall first, nor go back to the right

@@ -11,7 +11,7 @@ use lib.Signed.{_<ℤ_, ltZ}
 use Rattle.std.proofs.shelf.Signed.{by-ltZ}
 use Rattle.std.proofs.shelf.Tests.{and-parts}
 use Rattle.exact.proofs.Certificates.{_≼_, _≈_, hyp, sqr, _⊞_, _⊠_, prove≤, prove≡}
-use Rattle.exact.proofs.Order.{one-more}
+use Rattle.exact.proofs.Order.{one-more, never}
 use Rattle.exact.proofs.Ring.{Expr, con, _⊕_, _⊗_, _⊝_, ⊖_, solve}
 use Rattle.rules.specs.declared.Point.{Point}
 use Rattle.rules.specs.declared.Triangle.{Triangle}
@@ -19,7 +19,7 @@ use Rattle.rules.specs.declared.Vector.{Vector}
 use Rattle.rules.specs.Edges.{Corner, A, B, C, next, corner, edge, direction, vector, across}
 use Rattle.rules.specs.Parts.{middle}
 use Rattle.rules.specs.Triangles.{area2, proper}
-use Rattle.theory.proofs.Plane.{Pair, pair, Across, Along, To, Straight, factor-out, never}
+use Rattle.theory.proofs.Plane.{Pair, pair, Across, Along, To, Straight, factor-out, squared}
 
 abbrev pub prev : Corner → Corner
 prev i = next (next i)
@@ -32,16 +32,16 @@ pub middle-comm : (p q : Point) → middle p q ≡ middle q p
 middle-comm p q = λ i. record { x = +ℤ-comm (p .x) (q .x) i; y = +ℤ-comm (p .y) (q .y) i }
 
 -- ---- the area, from whichever corner it is taken
-abbrev P : Pair
+abbrev pub P : Pair
 P = pair 0 1
 
-abbrev Q : Pair
+abbrev pub Q : Pair
 Q = pair 2 3
 
-abbrev R : Pair
+abbrev pub R : Pair
 R = pair 4 5
 
-abbrev numbers : Point → Point → Point → List ℤ
+abbrev pub numbers : Point → Point → Point → List ℤ
 numbers p q r = p .x ∷ p .y ∷ q .x ∷ q .y ∷ r .x ∷ r .y ∷ []
 
 abbrev pub Area : Pair → Pair → Pair → Expr
@@ -57,7 +57,7 @@ turned-area t B = solve (numbers (t .a) (t .b) (t .c)) (Area Q R P) (Area P Q R)
 turned-area t C = solve (numbers (t .a) (t .b) (t .c)) (Area R P Q) (Area P Q R) tt
 
 -- ---- heights above an edge: nought at its ends, and the area at the corner opposite
-over : (p q r : Point) (k : ℕ) → (across (vector p q) q ≡ across (vector p q) p) × (across (vector p q) r ≡ across (vector p q) p +ℤ area2 (record { a = p; b = q; c = r; k = k }))
+pub over : (p q r : Point) (k : ℕ) → (across (vector p q) q ≡ across (vector p q) p) × (across (vector p q) r ≡ across (vector p q) p +ℤ area2 (record { a = p; b = q; c = r; k = k }))
 unfolding across area2
 over p q r k =
     (solve (numbers p q r) (Across (To P Q) Q) (Across (To P Q) P) tt, solve (numbers p q r) (Across (To P Q) R) (Across (To P Q) P ⊕ Area P Q R) tt)
@@ -126,14 +126,14 @@ spread : (p q r : Point) (k : ℕ) → pos 0 <ℤ area2 (record { a = p; b = q; 
 unfolding area2
 spread p q r k above =
     let d = vector p q in
-    by-ltZ (pos 0) ((d .x *ℤ d .x) +ℤ (d .y *ℤ d .y)) (λ straight. straight)
+    by-ltZ (pos 0) (squared d) (λ straight. straight)
     (λ none. absurd (never (prove≤ (numbers p q r) ((Along (To P Q) (To P Q) ≼ con (pos 0)) ∷ (con (pos 1) ≼ Area P Q R) ∷ [])
     ((hyp 0 ⊠ (sqr (R .x ⊝ P .x) ⊞ sqr (R .y ⊝ P .y))) ⊞ (hyp 1 ⊠ hyp 1) ⊞ hyp 1 ⊞ hyp 1 ⊞ sqr (Along (To P Q) (To P R))) (con (pos 1)) (con (pos 0)) tt (none, (one-more above, tt)))))
 
 pub straight-edge : (t : Triangle) → proper t ≡ true → (i : Corner) → Straight (direction (edge t i))
 straight-edge t ok i = spread (corner t i) (corner t (next i)) (corner t (prev i)) (t .k) (subst (λ z. pos 0 <ℤ z) (sym (turned-area t i)) (area-above t ok))
 
-flat-area : (d : Vector) (t : Triangle) → across d (t .b) ≡ across d (t .a) → across d (t .c) ≡ across d (t .a) → ((d .x *ℤ d .x) +ℤ (d .y *ℤ d .y)) *ℤ area2 t ≡ pos 0
+flat-area : (d : Vector) (t : Triangle) → across d (t .b) ≡ across d (t .a) → across d (t .c) ≡ across d (t .a) → (squared d) *ℤ area2 t ≡ pos 0
 unfolding across area2
 flat-area d t h k =
     let D = pair 6 7 in
@@ -143,7 +143,7 @@ flat-area d t h k =
 pub not-flat : (d : Vector) (t : Triangle) (i : Corner) → Straight d → proper t ≡ true →
     across d (corner t (next i)) ≡ across d (corner t i) → across d (corner t (prev i)) ≡ across d (corner t i) → ⊥
 not-flat d t i straight ok h k =
-    let none = factor-out ((d .x *ℤ d .x) +ℤ (d .y *ℤ d .y)) (area2 (from-corner t i)) straight (flat-area d (from-corner t i) h k) in
+    let none = factor-out (squared d) (area2 (from-corner t i)) straight (flat-area d (from-corner t i) h k) in
     let same = turned-area t i in
     let area = area-above t ok in
     omega (arith, ints)

@@ -20,20 +20,20 @@ use Rattle.theory.proofs.Below.{below}
 use Rattle.theory.proofs.Carried.{fields-carried, streams-carried}
 use Rattle.theory.proofs.Carries.{carried-there}
 use Rattle.theory.proofs.FinerLawful.{finer-lawful}
-use Rattle.theory.proofs.Known.{proper-at}
+use Rattle.theory.proofs.Facts.{facts}
 use Rattle.theory.proofs.Printed.{printed}
 use Rattle.theory.proofs.Rounding.{above}
 
 -- ---- denominators
 spent-den : (m : Plate) → lawful m ≡ true → (u : Values) → 0 < spent u (m .triangles) .den
 unfolding spent
-spent-den m ok u = sumF-den (λ t. spentIn t (cornersOf u t)) (m .triangles) (λ t at. above t (proper-at m ok t at) .0)
+spent-den m ok u = sumF-den (λ t. spentIn t (cornersOf u t)) (m .triangles) (λ t at. above t (facts m ok .is-proper t at) .0)
 
 says-den : (m : Plate) → lawful m ≡ true → (s : Values) → 0 < says s m .den
 unfolding says drag
 says-den m ok s =
     +F-den (whole (work s (m .outline))) (negF (drag s (m .triangles))) (omega arith)
-    (sumF-den (λ t. dragIn t (cornersOf s t)) (m .triangles) (λ t at. above t (proper-at m ok t at) .1))
+    (sumF-den (λ t. dragIn t (cornersOf s t)) (m .triangles) (λ t at. above t (facts m ok .is-proper t at) .1))
 
 -- ---- what is printed, to scale
 printed-low : (n : ℕ) (m : Plate) → lawful m ≡ true → (s : Values) → whole (scale n *ℤ lower s m) ≤F scaled (scale n) (says s m)
@@ -123,4 +123,8 @@ bracketed m ok i u s field stream =
           (printed-low n mi ok-i s) (compared m ok n i w s is stream);
       streams = λ n r is. ≤F-trans (scaled (scale i) (says r (finest n m))) (scaled (scale n) (spent u (mi .triangles))) (whole (scale n *ℤ pos (upper u (mi .triangles)))) (spent-den mi ok-i u)
           (compared m ok i n u r field is) (printed-high n mi ok-i u);
+      reached = λ n.
+          let spends : Values → Plate → Fraction = λ u m. spent u (m .triangles) in
+          let far = carried-far isField spends spent-den fields-carried n mi ok-i u field in
+          (far .0, far .1, ≤F-trans (spends (far .0) (finest n mi)) (scaled (scale n) (spends u mi)) (whole (scale n *ℤ pos (upper u (mi .triangles)))) (spent-den mi ok-i u) (far .2 .0) (printed-high n mi ok-i u));
     }

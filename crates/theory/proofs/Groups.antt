@@ -16,11 +16,11 @@ use Rattle.rules.specs.declared.Edge.{Edge}
 use Rattle.rules.specs.declared.OutlineEdge.{OutlineEdge}
 use Rattle.rules.specs.declared.OutlineEdge.the-variants.{Closed, Held}
 use Rattle.rules.specs.Energy.{isStream, keeps}
-use Rattle.rules.specs.Plates.{Plate, Values, among, noted}
-use Rattle.rules.specs.Promises.{Joined, GroupsJoined, GroupsKept}
+use Rattle.rules.specs.Plates.{Plate, Values, same, among, noted}
+use Rattle.rules.specs.Promises.{Joined, GroupsJoined, GroupsKept, GroupsAlike}
 use Rattle.rules.specs.Settled.{joined, group, changedAll}
 use Rattle.theory.proofs.Points.{among-out, among-in, noted-keeps, noted-there}
-use Rattle.theory.proofs.Sameness.{same-is, same-from}
+use Rattle.theory.proofs.Sameness.{same-refl, same-is, same-from}
 
 -- ---- one pass along the outline
 joined-keeps : (ps : List Point) (b : OutlineEdge) (q : Point) → List·Memᴰ q ps → List·Memᴰ q (joined ps b)
@@ -228,3 +228,11 @@ groups-kept m s p d stream = every-in (keeps v) (m .outline) kept
     kept (Closed e) n =
         same-from (v (e .from)) (v (e .to))
         (ap₂ (λ t z. cond t (z +ℤ d) z) (group-balanced m p e n) (same-is (s (e .from)) (s (e .to)) (every-out (keeps s) (m .outline) stream (Closed e) n)))
+
+pub groups-alike : GroupsAlike
+unfolding isStream keeps
+groups-alike m s p q stream t =
+    let marks : Point → Bool = λ r. same (s p) (s r) in
+    let even : (e : Edge) → List·Memᴰ (Closed e) (m .outline) → marks (e .from) ≡ marks (e .to) =
+    λ e n. ap (same (s p)) (same-is (s (e .from)) (s (e .to)) (every-out (keeps s) (m .outline) stream (Closed e) n)) in
+    sym (same-is (s p) (s q) (groups-joined m p q .0 t marks even (same-refl (s p))))

@@ -2,7 +2,7 @@
 use mathlib.Core.Path.{_≡_, ap, subst}
 use mathlib.Core.Bool.{true, false, _&&_}
 use mathlib.Core.Logic.{⊎-elim}
-use mathlib.Core.List.{List, [], _∷_}
+use mathlib.Core.List.{[], _∷_}
 use native.Mathlib.Omega.{arith}
 use borrow.Author.Differences.{ints}
 use lib.IntN.{ℤ, pos, negℤ, _+ℤ_, _-ℤ_, _*ℤ_}
@@ -16,8 +16,9 @@ use Rattle.rules.specs.Edges.{back, vector, direction, across, along, inside}
 use Rattle.rules.specs.Finer.{half1, half2}
 use Rattle.rules.specs.Parts.{middle, twice}
 use Rattle.rules.specs.Plates.{same}
+use Rattle.theory.proofs.Corners.{P, Q, R, numbers, over}
 use Rattle.theory.proofs.Halves.{Side, begin, end, half, back-half}
-use Rattle.theory.proofs.Plane.{Pair, pair, Across, Along, To, Sum, Inside, Straight, across-middle, along-middle}
+use Rattle.theory.proofs.Plane.{pair, Across, Along, To, Sum, Inside, Straight, across-middle, along-middle}
 use Rattle.theory.proofs.Sameness.{same-is, same-from}
 
 -- ---- the test
@@ -48,24 +49,7 @@ outside e r out at = both-ways (inside e r) out (inside-in e r at)
 pub is-outside : (e : Edge) (r : Point) → (Inside e r → ⊥) → inside e r ≡ false
 is-outside e r out = ⊎-elim (λ t. absurd (out (inside-out e r t))) (λ f. f) (cases-bool (inside e r))
 
--- ---- the edges as expressions
-abbrev P : Pair
-P = pair 0 1
-
-abbrev Q : Pair
-Q = pair 2 3
-
-abbrev R : Pair
-R = pair 4 5
-
-abbrev numbers : Point → Point → Point → List ℤ
-numbers p q r = p .x ∷ p .y ∷ q .x ∷ q .y ∷ r .x ∷ r .y ∷ []
-
--- an edge lies along itself
-ends-level : (p q : Point) → across (vector p q) q ≡ across (vector p q) p
-unfolding across
-ends-level p q = solve (numbers p q q) (Across (To P Q) Q) (Across (To P Q) P) tt
-
+-- ---- the edge turned round
 pub across-back : (p q r : Point) → across (vector q p) r ≡ negℤ (across (vector p q) r)
 unfolding across
 across-back p q r = solve (numbers p q r) (Across (To Q P) R) (⊖ (Across (To P Q) R)) tt
@@ -80,7 +64,7 @@ inside-back e r at =
     let q = e .to in
     let x = across-back p q r in
     let xq = across-back p q q in
-    let lev = ends-level p q in
+    let lev = over p q q 0 .0 in
     let y = along-back p q r in
     let yp = along-back p q p in
     let yq = along-back p q q in

@@ -1,22 +1,15 @@
--- What is known at one triangle or one outline edge of a lawful plate, of a field and of a stream. Assumes nothing.
-use mathlib.Core.Path.{_≡_, refl, sym, subst}
+-- What is known at one outline edge of a field and of a stream. Assumes nothing.
+use mathlib.Core.Path.{_≡_, refl}
 use mathlib.Core.Bool.{true}
 use mathlib.Core.List.{List·Memᴰ, List·Memᴰ·head, List·Memᴰ·tail}
-use lib.Dec.{T}
 use lib.IntN.{ℤ}
 use Rattle.exact.proofs.Members.{every-out, member-flatMap}
 use Rattle.rules.specs.declared.Edge.{Edge}
-use Rattle.rules.specs.declared.Triangle.{Triangle}
 use Rattle.rules.specs.declared.OutlineEdge.the-variants.{Closed, Held}
 use Rattle.rules.specs.Energy.{isField, isStream, has, keeps}
-use Rattle.rules.specs.Lawful.{held, heldEnds, lawful}
+use Rattle.rules.specs.Lawful.{held, heldEnds}
 use Rattle.rules.specs.Plates.{Plate, PointValue, Values}
-use Rattle.rules.specs.Triangles.{proper}
-use Rattle.theory.proofs.Facts.{facts}
 use Rattle.theory.proofs.Sameness.{same-is}
-
-pub proper-at : (m : Plate) → lawful m ≡ true → (t : Triangle) → List·Memᴰ t (m .triangles) → T (proper t)
-proper-at m ok t at = subst T (sym (facts m ok .is-proper t at)) tt
 
 -- a field has the temperatures of a held edge at its ends
 pub field-at : (u : Values) (m : Plate) → isField u m ≡ true → (e : Edge) (g h : ℤ) → List·Memᴰ (Held e g h) (m .outline) → (u (e .from) ≡ g) × (u (e .to) ≡ h)

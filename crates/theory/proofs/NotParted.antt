@@ -20,7 +20,7 @@ use Rattle.rules.specs.declared.Triangle.{Triangle}
 use Rattle.rules.specs.declared.Vector.{Vector}
 use Rattle.rules.specs.Edges.{Corner, A, B, C, next, corner, edge, edgesIn, direction}
 use Rattle.rules.specs.Lawful.{before, oneSide, directions, parted}
-use Rattle.rules.specs.Promises.{Strictly, NotPartedMeans}
+use Rattle.rules.specs.Promises.{InnerPoint, NotPartedMeans}
 use Rattle.rules.specs.Triangles.{area2, proper}
 use Rattle.theory.proofs.Blends.{two-rows, three-rows}
 use Rattle.theory.proofs.Corners.{prev, thrice, area-above}
@@ -124,7 +124,7 @@ module _ (s t : Triangle) (ps : proper s ≡ true) (pt : proper t ≡ true)
 
 -- ---- moved a little towards the middle of t, such a spot is strictly inside both
 abbrev Common : Triangle → Triangle → Type 0
-Common s t = (N : ℕ) × (0 < N) × (z : Point) × Strictly N s z × Strictly N t z
+Common s t = (N : ℕ) × (0 < N) × (z : Point) × InnerPoint N s z × InnerPoint N t z
 
 large : (f : Corner → ℤ) → (K : ℤ) × (pos 0 <ℤ K) × ((i : Corner) → pos 0 <ℤ (K +ℤ f i))
 large f =
@@ -144,7 +144,7 @@ adds K a b hK ha hb =
     below (prove≤ (K ∷ a ∷ b ∷ []) ((con (pos 1) ≼ var 0) ∷ (con (pos 0) ≼ var 1) ∷ (con (pos 1) ≼ var 2) ∷ [])
     (((hyp 0 ⊞ lit 1) ⊠ hyp 1) ⊞ hyp 2) (con (pos 1)) ((var 0 ⊗ var 1) ⊕ (con (pos 1) ⊗ var 2)) tt (one-more hK, (ha, (one-more hb, tt))))
 
-strictly : (N : ℕ) (t : Triangle) (z : Point) → ((i : Corner) → pos 0 <ℤ rise t i (pos N) z) → Strictly N t z
+strictly : (N : ℕ) (t : Triangle) (z : Point) → ((i : Corner) → pos 0 <ℤ rise t i (pos N) z) → InnerPoint N t z
 unfolding rise
 strictly N t z up i = let h = up i in omega (arith, ints)
 

@@ -9,16 +9,16 @@ use lib.IntN.{ℤ, pos, negℤ, _-ℤ_, _*ℤ_}
 use lib.Signed.{_≤ℤ_, _<ℤ_}
 use Rattle.std.proofs.shelf.Signed.{by-ltZ}
 use Rattle.exact.proofs.Certificates.{_≼_, hyp, lit, _⊞_, _⊠_, prove≤}
-use Rattle.exact.proofs.Order.{one-more}
+use Rattle.exact.proofs.Order.{never, one-more}
 use Rattle.exact.proofs.Ring.{Expr, var, con, _⊕_, _⊗_, _⊝_, ⊖_, solve}
 use Rattle.rules.specs.declared.Point.{Point}
 use Rattle.rules.specs.declared.Triangle.{Triangle}
 use Rattle.rules.specs.declared.Vector.{Vector}
 use Rattle.rules.specs.Edges.{Corner, A, B, C, corner, edge, direction, across}
-use Rattle.rules.specs.Promises.{Strictly, PartedMeans}
+use Rattle.rules.specs.Promises.{InnerPoint, PartedMeans}
 use Rattle.rules.specs.Triangles.{area2, proper}
 use Rattle.theory.proofs.Corners.{Area, prev, area-above, not-flat}
-use Rattle.theory.proofs.Plane.{Pair, pair, Across, To, Straight, opposite, across-opposite, straight-opposite, never}
+use Rattle.theory.proofs.Plane.{Pair, pair, Across, To, Straight, opposite, across-opposite, straight-opposite}
 use Rattle.theory.proofs.Separated.{parted-out}
 use Rattle.theory.proofs.Threes.{highest, sum, noughts}
 
@@ -40,7 +40,7 @@ mean d t n m z =
     (Area P Q R ⊗ ((var 10 ⊗ var 11) ⊝ Across D Z)) tt
 
 -- an inner point lies less far across than m where no corner lies farther
-inner-below : (d : Vector) (t : Triangle) (N : ℕ) (z : Point) (m : ℤ) → Straight d → proper t ≡ true → Strictly N t z → ((i : Corner) → across d (corner t i) ≤ℤ m) →
+inner-below : (d : Vector) (t : Triangle) (N : ℕ) (z : Point) (m : ℤ) → Straight d → proper t ≡ true → InnerPoint N t z → ((i : Corner) → across d (corner t i) ≤ℤ m) →
     across d z <ℤ (pos N *ℤ m)
 unfolding rise
 inner-below d t N z m straight ok inner most =

@@ -9,7 +9,7 @@ use lib.IntN.{ℤ, pos, negℤ, _+ℤ_, _-ℤ_, _*ℤ_, *ℤ-zero, *ℤ-comm}
 use lib.Signed.{_≤ℤ_, _<ℤ_}
 use Rattle.std.proofs.shelf.Signed.{by-ltZ}
 use Rattle.exact.proofs.Certificates.{_≼_, _≈_, hyp, off, _⊞_, _⊠_, prove≤, prove≡}
-use Rattle.exact.proofs.Order.{one-more, below, ≤ℤ-of-≡, *ℤ-cancel-≤ℤ}
+use Rattle.exact.proofs.Order.{never, one-more, below, ≤ℤ-of-≡, *ℤ-cancel-≤ℤ}
 use Rattle.exact.proofs.Ring.{Expr, var, con, _⊕_, _⊗_, _⊝_, ⊖_, solve}
 use Rattle.rules.specs.declared.Point.{Point}
 use Rattle.rules.specs.declared.Edge.{Edge}
@@ -74,9 +74,13 @@ pub record Inside (e : Edge) (r : Point) : Type 0 where
   pub past : along (direction e) (e .from) <ℤ along (direction e) r
   pub short : along (direction e) r <ℤ along (direction e) (e .to)
 
--- a direction that is none
+-- the square of a vector's length
+abbrev pub squared : Vector → ℤ
+squared d = (d .x *ℤ d .x) +ℤ (d .y *ℤ d .y)
+
+-- a direction that is not nought
 abbrev pub Straight : Vector → Type 0
-Straight d = pos 0 <ℤ ((d .x *ℤ d .x) +ℤ (d .y *ℤ d .y))
+Straight d = pos 0 <ℤ squared d
 
 pub straight-opposite : (d : Vector) → Straight d → Straight (opposite d)
 straight-opposite d straight =
@@ -84,9 +88,6 @@ straight-opposite d straight =
     omega (arith, ints)
 
 -- ---- numbers with positive weights
-pub never : pos 1 ≤ℤ pos 0 → ⊥
-never h = h .le
-
 weights : (a b x y : ℤ) → pos 0 <ℤ a → pos 0 <ℤ b → pos 0 ≤ℤ x → pos 0 ≤ℤ y → (a *ℤ x) +ℤ (b *ℤ y) ≡ pos 0 → x ≡ pos 0
 weights a b x y ha hb hx hy sum =
     by-ltZ (pos 0) x
@@ -149,7 +150,7 @@ one-point d p q straight h k =
     let ρ = numbers d p q q in
     let N = (D .x ⊗ D .x) ⊕ (D .y ⊗ D .y) in
     let known = (Across D P ≈ Across D Q) ∷ (Along D P ≈ Along D Q) ∷ [] in
-    let n = (d .x *ℤ d .x) +ℤ (d .y *ℤ d .y) in
+    let n = squared d in
     let x = factor-out n (p .x -ℤ q .x) straight (prove≡ ρ known ((⊖ (D .y)) ∷ D .x ∷ []) (N ⊗ (P .x ⊝ Q .x)) (con (pos 0)) tt (h, (k, tt))) in
     let y = factor-out n (p .y -ℤ q .y) straight (prove≡ ρ known (D .x ∷ D .y ∷ []) (N ⊗ (P .y ⊝ Q .y)) (con (pos 0)) tt (h, (k, tt))) in
     λ i. record { x = equal (p .x) (q .x) x i; y = equal (p .y) (q .y) y i }
@@ -200,19 +201,19 @@ module _ (d : Vector) (p q r : Point) (level : across d p ≡ across d q) where
   abbrev N : Expr
   N = (D .x ⊗ D .x) ⊕ (D .y ⊗ D .y)
 
-  along-past : ((d .x *ℤ d .x) +ℤ (d .y *ℤ d .y)) *ℤ (along (vector p q) r -ℤ along (vector p q) p) ≡ (along d q -ℤ along d p) *ℤ (along d r -ℤ along d p)
+  along-past : squared d *ℤ (along (vector p q) r -ℤ along (vector p q) p) ≡ (along d q -ℤ along d p) *ℤ (along d r -ℤ along d p)
   unfolding across along
   along-past =
       let E = To P Q in
       prove≡ (numbers d p q r) ((Across D P ≈ Across D Q) ∷ []) ((Across D P ⊝ Across D R) ∷ []) (N ⊗ (Along E R ⊝ Along E P)) ((Along D Q ⊝ Along D P) ⊗ (Along D R ⊝ Along D P)) tt (level, tt)
 
-  along-short : ((d .x *ℤ d .x) +ℤ (d .y *ℤ d .y)) *ℤ (along (vector p q) q -ℤ along (vector p q) r) ≡ (along d q -ℤ along d p) *ℤ (along d q -ℤ along d r)
+  along-short : squared d *ℤ (along (vector p q) q -ℤ along (vector p q) r) ≡ (along d q -ℤ along d p) *ℤ (along d q -ℤ along d r)
   unfolding across along
   along-short =
       let E = To P Q in
       prove≡ (numbers d p q r) ((Across D P ≈ Across D Q) ∷ []) ((Across D R ⊝ Across D Q) ∷ []) (N ⊗ (Along E Q ⊝ Along E R)) ((Along D Q ⊝ Along D P) ⊗ (Along D Q ⊝ Along D R)) tt (level, tt)
 
-  across-on : across d p ≡ across d r → ((d .x *ℤ d .x) +ℤ (d .y *ℤ d .y)) *ℤ (across (vector p q) r -ℤ across (vector p q) p) ≡ pos 0
+  across-on : across d p ≡ across d r → squared d *ℤ (across (vector p q) r -ℤ across (vector p q) p) ≡ pos 0
   unfolding across along
   across-on level′ =
       let E = To P Q in
@@ -222,7 +223,7 @@ module _ (d : Vector) (p q r : Point) (level : across d p ≡ across d q) where
   pub inside-amid : Straight d → Inside (record { from = p; to = q }) r → Amid (along d p) (along d q) (along d r)
   inside-amid straight at =
       let e = vector p q in
-      let n = (d .x *ℤ d .x) +ℤ (d .y *ℤ d .y) in
+      let n = squared d in
       amid-products (along d p) (along d q) (along d r)
       (subst (λ z. pos 0 <ℤ z) along-past (product-above n (along e r -ℤ along e p) straight (omega (arith, ints, at .past))))
       (subst (λ z. pos 0 <ℤ z) along-short (product-above n (along e q -ℤ along e r) straight (omega (arith, ints, at .short))))
@@ -230,7 +231,7 @@ module _ (d : Vector) (p q r : Point) (level : across d p ≡ across d q) where
   pub amid-inside : Straight d → across d p ≡ across d r → Amid (along d p) (along d q) (along d r) → Inside (record { from = p; to = q }) r
   amid-inside straight level′ amid =
       let e = vector p q in
-      let n = (d .x *ℤ d .x) +ℤ (d .y *ℤ d .y) in
+      let n = squared d in
       let both = products-amid (along d p) (along d q) (along d r) amid in
       let on = factor-out n (across e r -ℤ across e p) straight (across-on level′) in
       let past = factor-above n (along e r -ℤ along e p) straight (subst (λ z. pos 0 <ℤ z) (sym along-past) (both .0)) in

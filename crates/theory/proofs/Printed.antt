@@ -14,7 +14,7 @@ use Rattle.rules.specs.Energy.{spent, drag, says}
 use Rattle.rules.specs.Plates.{cornersOf}
 use Rattle.rules.specs.Promises.{Printed}
 use Rattle.rules.specs.Triangles.{spentIn, dragIn}
-use Rattle.theory.proofs.Known.{proper-at}
+use Rattle.theory.proofs.Facts.{facts}
 use Rattle.theory.proofs.Rounding.{rounded-up}
 
 -- fractions that are at most naturals, summed
@@ -28,10 +28,10 @@ printed m ok u s =
     let ts = m .triangles in
     let drags : Triangle → Fraction = λ t. dragIn t (cornersOf s t) in
     let most : sumF drags ts ≤F whole (pos (upDrag s ts)) =
-    sum-at-most drags (λ t. upDragIn t (cornersOf s t)) ts (λ t at. rounded-up t (proper-at m ok t at) (cornersOf s t) .1) in
+    sum-at-most drags (λ t. upDragIn t (cornersOf s t)) ts (λ t at. rounded-up t (facts m ok .is-proper t at) (cornersOf s t) .1) in
     let w = whole (work s (m .outline)) in
     let least : (w -F whole (pos (upDrag s ts))) ≤F (w -F sumF drags ts) =
     ≤F-+ w w (negF (whole (pos (upDrag s ts)))) (negF (sumF drags ts)) (≤F-refl w) (≤F-neg (sumF drags ts) (whole (pos (upDrag s ts))) most) in (
-      sum-at-most (λ t. spentIn t (cornersOf u t)) (λ t. upperIn t (cornersOf u t)) ts (λ t at. rounded-up t (proper-at m ok t at) (cornersOf u t) .0),
+      sum-at-most (λ t. spentIn t (cornersOf u t)) (λ t. upperIn t (cornersOf u t)) ts (λ t at. rounded-up t (facts m ok .is-proper t at) (cornersOf u t) .0),
       subst (λ p. p ≤F (w -F sumF drags ts)) (whole-+F (work s (m .outline)) (negℤ (pos (upDrag s ts)))) least,
     )

@@ -1,15 +1,17 @@
 -- Rounded up, a quotient is at least itself. Assumes nothing.
+use mathlib.Core.Path.{_≡_}
+use mathlib.Core.Bool.{true}
 use Prim.Native.Nat.{ℕ, _*_, _<_, _≤_}
 use native.Mathlib.Nat.{mul-le-mul-left, mul-pos, mul-one, mul-assoc}
 use native.Mathlib.Omega.{arith}
 use borrow.Author.Differences.{ints}
-use lib.Dec.{T, ltb, ltb→lt}
+use lib.Dec.{ltb}
 use lib.IntN.{ℤ, pos, natAbs}
 use lib.Signed.{ltZ}
+use Rattle.std.proofs.shelf.Tests.{and-parts, ltb-true}
 use Rattle.exact.specs.Fractions.{ratio, whole, _≤F_}
 use Rattle.exact.specs.Rounding.{up}
 use Rattle.exact.proofs.Order.{pos-≤ℤ}
-use Rattle.exact.proofs.Ring.{and-left, and-right}
 use Rattle.exact.proofs.Rounding.{up-reaches}
 use Rattle.rules.specs.declared.Triangle.{Triangle}
 use Rattle.rules.specs.Bounds.{upperIn, upDragIn}
@@ -30,15 +32,15 @@ once n d above =
     let one = mul-one n in
     pos-≤ℤ (omega arith)
 
-area-above : (d : ℤ) → T (ltZ (pos 0) d) → 0 < 2 * natAbs d
+area-above : (d : ℤ) → ltZ (pos 0) d ≡ true → 0 < 2 * natAbs d
 area-above d h = omega (arith, ints)
 
 -- the denominators of what is spent and dragged in a proper triangle
-pub above : (t : Triangle) → T (proper t) → (0 < 2 * natAbs (area2 t)) × (0 < 2 * natAbs (area2 t) * t .k)
+pub above : (t : Triangle) → proper t ≡ true → (0 < 2 * natAbs (area2 t)) × (0 < 2 * natAbs (area2 t) * t .k)
 above t ok =
-    let area = area-above (area2 t) (and-left (ltZ (pos 0) (area2 t)) (ltb 0 (t .k)) ok) in
-    let k : 0 < t .k = ltb→lt 0 (t .k) (and-right (ltZ (pos 0) (area2 t)) (ltb 0 (t .k)) ok) in
-    (area, mul-pos area k)
+    let both = and-parts (ltZ (pos 0) (area2 t)) (ltb 0 (t .k)) ok in
+    let area = area-above (area2 t) (both .0) in
+    (area, mul-pos area (ltb-true 0 (t .k) (both .1)))
 
 pub rounded-up : RoundedUp
 unfolding upperIn upDragIn

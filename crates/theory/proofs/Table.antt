@@ -10,9 +10,9 @@ use Rattle.rules.specs.Limits.{modest, mild, modestPlate, marked}
 use Rattle.rules.specs.Numbers.{pointAt, triangleAt, outlineAt}
 use Rattle.rules.specs.Plates.{noted}
 use Rattle.rules.specs.Settled.{admitted, resists, settled, joined, group, admittedStream, resistsStream, settledStream}
-use Rattle.rules.specs.Table.{RowA, RowB, RowC, RowD, RowE, RowF, Slanted, LawsAlone, PlateLimits, ValueLimits, FinerAndCarried, SettledFields, SettledStreams, TableHolds}
+use Rattle.rules.specs.Table.{RowA, RowB, RowC, RowD, RowE, RowF, Slanted, LawsAlone, PlateLimits, ValueLimits, FinerAndCarried, SettledFields, SettledStreams, FirstRefusals, TableHolds}
 use Rattle.rules.specs.Triangles.{area2, weighed, turned, norm}
-use Rattle.rules.specs.Verdicts.{plateVerdict, fills, givesField, givesStream, fieldVerdict, streamVerdict, boundsVerdict, settleVerdict, settleStreamVerdict, finerVerdict, carryVerdict}
+use Rattle.rules.specs.Verdicts.{plateVerdict, fills, gives, fieldVerdict, streamVerdict, boundsVerdict, settleVerdict, settleStreamVerdict, finerVerdict, carryVerdict}
 use Rattle.rules.specs.Within.{gentleOver, upperWithin, dragWithin}
 use Rattle.rules.specs.Written.{written, finerNumbers, carriedNumbers}
 
@@ -20,7 +20,7 @@ use Rattle.rules.specs.Written.{written, finerNumbers, carriedNumbers}
 computing : Unit {0}
 unfolding flatMap flatten area2 weighed turned norm upperIn upDragIn workAlong gentleOver upperWithin dragWithin noted pointAt triangleAt outlineAt
     modest mild modestPlate marked sameEdge across along inside edges outlineEdges times paired outlined held agree oneTemperature before parted apart
-    clear allClear lawful has isField keeps isStream finer carried written finerNumbers carriedNumbers plateVerdict fills givesField givesStream
+    clear allClear lawful has isField keeps isStream finer carried written finerNumbers carriedNumbers plateVerdict fills gives
     fieldVerdict streamVerdict boundsVerdict settleVerdict settleStreamVerdict finerVerdict carryVerdict admitted resists settled joined group
     admittedStream resistsStream settledStream
 computing = tt
@@ -59,7 +59,7 @@ laws-alone = (refl, (refl, refl), (refl, refl), (refl, refl), (refl, refl), (ref
 
 plate-limits : PlateLimits
 unfolding computing
-plate-limits = (refl, refl, refl, refl, refl, refl, refl, refl, refl, refl, refl, refl, refl, refl)
+plate-limits = (refl, refl, refl, refl, refl, refl, refl, refl, refl, refl, refl, refl, refl, refl, refl)
 
 value-limits : ValueLimits
 unfolding computing
@@ -71,11 +71,15 @@ finer-and-carried = (refl, refl, refl, refl, refl, refl, refl, refl, refl, refl,
 
 settled-fields : SettledFields
 unfolding computing
-settled-fields = (refl, refl, refl, refl, refl, refl, refl, refl)
+settled-fields = (refl, refl, refl, refl, refl, refl, refl, refl, refl)
 
 settled-streams : SettledStreams
 unfolding computing
-settled-streams = (refl, refl, refl, refl, refl, refl, refl, refl, refl, refl, refl, refl, refl, refl, refl, refl, refl)
+settled-streams = (refl, refl, refl, refl, refl, refl, refl, refl, refl, refl, refl, refl, refl, refl, refl, refl, refl, refl)
+
+first-refusals : FirstRefusals
+unfolding computing
+first-refusals = (refl, refl, refl, refl, refl, refl, refl, refl, refl, refl)
 
 pub table-holds : TableHolds
 table-holds =
@@ -93,4 +97,5 @@ table-holds =
       finer-and-carried = finer-and-carried;
       settled-fields = settled-fields;
       settled-streams = settled-streams;
+      first-refusals = first-refusals;
     }

@@ -7,11 +7,10 @@ use lib.IntN.{ℤ, pos, _+ℤ_, _*ℤ_}
 use lib.Signed.{_≤ℤ_, _<ℤ_}
 use Rattle.std.proofs.shelf.Signed.{by-ltZ}
 use Rattle.exact.proofs.Certificates.{_≼_, hyp, lit, _⊞_, _⊠_, prove≤}
-use Rattle.exact.proofs.Order.{one-more}
+use Rattle.exact.proofs.Order.{never, one-more}
 use Rattle.exact.proofs.Ring.{var, con, _⊕_, _⊗_}
 use Rattle.rules.specs.Edges.{Corner, A, B, C, next}
 use Rattle.theory.proofs.Corners.{prev}
-use Rattle.theory.proofs.Plane.{never}
 
 -- a corner is another one, the next or the one before
 pub near : (P : Corner → Corner → Type 0) → ((j : Corner) → P j j) → ((j : Corner) → P j (next j)) → ((j : Corner) → P j (prev j)) → (j k : Corner) → P j k

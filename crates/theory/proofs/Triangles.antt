@@ -1,12 +1,14 @@
 -- The identities of one triangle, and its law. Assumes nothing.
 use mathlib.Core.Path.{_≡_, refl, sym, ap, ap₂, _∙_}
+use mathlib.Core.Bool.{true}
 use mathlib.Core.List.{List, [], _∷_}
 use Prim.Native.Nat.{ℕ}
 use lib.Dec.{T, ltb}
 use lib.IntN.{ℤ, pos, negsuc, natAbs, _+ℤ_, _-ℤ_, _*ℤ_}
 use lib.Signed.{_≤ℤ_, ltZ}
+use Rattle.std.proofs.shelf.Tests.{and-parts, false≢true}
 use Rattle.exact.proofs.Certificates.{_≼_, _≈_, hyp, lit, sqr, off, _⊞_, _⊠_, natural, prove≤}
-use Rattle.exact.proofs.Ring.{and-left, Expr, var, con, _⊕_, _⊗_, _⊝_, ⊖_, value, same, solve}
+use Rattle.exact.proofs.Ring.{Expr, var, con, _⊕_, _⊗_, _⊝_, ⊖_, value, same, solve}
 use Rattle.rules.specs.declared.Triangle.{Triangle}
 use Rattle.rules.specs.declared.Corners.{Corners}
 use Rattle.rules.specs.declared.Vector.{Vector}
@@ -87,16 +89,16 @@ law-over k d w nu ns ux uy sx sy above is-nu is-ns spans =
     ((((k′ ⊗ nu′) ⊗ ((two ⊗ d′) ⊗ k′)) ⊕ (ns′ ⊗ (two ⊗ d′))) ⊗ con (pos 1)) tt
     (above, (is-nu, (is-ns, (spans, tt))))
 
-positive-is : (d : ℤ) → T (ltZ (pos 0) d) → d ≡ pos (natAbs d)
+positive-is : (d : ℤ) → ltZ (pos 0) d ≡ true → d ≡ pos (natAbs d)
 positive-is (pos n) h = refl
-positive-is (negsuc n) h = absurd h
+positive-is (negsuc n) h = absurd (false≢true h)
 
 pub local-law : LocalLaw
 local-law t ok u s =
     let v = turned t u in
     let w = turned t s in
     let d = area2 t in
-    let above : T (ltZ (pos 0) d) = and-left (ltZ (pos 0) d) (ltb 0 (t .k)) ok in
+    let above = and-parts (ltZ (pos 0) d) (ltb 0 (t .k)) ok .0 in
     law-over (pos (t .k)) (pos (natAbs d)) (around u s) (pos (norm v)) (pos (norm w)) (v .x) (v .y) (w .x) (w .y) (natural (natAbs d)) (norm-is v) (norm-is w)
     (cross t u s ∙ ap (λ z. z *ℤ around u s) (positive-is d above))
 

@@ -1,6 +1,6 @@
 //! The theorems, each named in the contract of a function, so that a check asks for its proof.
-ghost use Rattle.rules.specs.Laws.{Cross, Squares, LocalLaw, PartsAlike, RoundedUp, ValuesListed};
-ghost use Rattle.rules.specs.Promises.{Below, FinerLawful, CarriedThere, FieldsCarried, StreamsCarried, HoweverFine, Printed, Between, PrintedCarried, Bracketed, PartedMeans, NotPartedMeans, GroupsJoined, GroupsKept};
+ghost use Rattle.rules.specs.Laws.{Cross, Squares, LocalLaw, PartsAlike, RoundedUp, ValuesListed, PointsListed};
+ghost use Rattle.rules.specs.Promises.{Below, FinerLawful, CarriedThere, FieldsCarried, StreamsCarried, HoweverFine, Printed, Between, PrintedCarried, Bracketed, PartedMeans, NotPartedMeans, GroupsJoined, GroupsKept, GroupsAlike};
 ghost use Rattle.rules.specs.Calls.{ReadAsWritten, AnswersBracket, FinerTaken, CarriedTaken, CarriedFourTimes};
 ghost use Rattle.rules.specs.Table.{TableHolds};
 
@@ -27,9 +27,10 @@ pub fn rounding_is_safe() -> u8
     0
 }
 
-/// Values in a row belong to the points in their order.
+/// Values in a row belong to the points in their order, of which no two are the same.
 pub fn values_are_listed() -> u8
-    ensures { λ _. ⌜ ValuesListed ⌝ }
+    ensures listed { λ _. ⌜ ValuesListed ⌝ }
+    ensures points { λ _. ⌜ PointsListed ⌝ }
 {
     0
 }
@@ -72,7 +73,8 @@ pub fn printed_numbers_are_safe() -> u8
     0
 }
 
-/// The lower number at any fineness is at most the upper one at any other, and the two bracket what every field spends and every stream says.
+/// The lower number at any fineness is at most the upper one at any other. No field of any fineness spends less than the lower number,
+/// and no stream says more than the upper one, to scale.
 pub fn printed_numbers_bracket() -> u8
     ensures between { λ _. ⌜ Between ⌝ }
     ensures bracketed { λ _. ⌜ Bracketed ⌝ }
@@ -94,16 +96,17 @@ pub fn not_parted_triangles_share_an_inner_point() -> u8
     0
 }
 
-/// A group is just the points that closed edges join to one, and a stream with a group changed is a stream.
+/// A group is just the points that closed edges join to one; a stream has one value there, and is a stream with all of it changed.
 pub fn groups_are_joined_points() -> u8
     ensures joined { λ _. ⌜ GroupsJoined ⌝ }
     ensures kept { λ _. ⌜ GroupsKept ⌝ }
+    ensures alike { λ _. ⌜ GroupsAlike ⌝ }
 {
     0
 }
 
-/// Of plates and values as rows of numbers: a plate is read as it was written, what `bounds` answers brackets, a finer plate and what
-/// is carried to it are taken by every call, and their numbers are four times as large.
+/// Of plates and values as rows of numbers: a plate is read as it was written; where nothing is refused the two numbers bracket; a finer
+/// plate is lawful, what is carried to it is a field or a stream there, and their numbers are four times as large.
 pub fn rows_of_numbers_keep_the_promise() -> u8
     ensures read { λ _. ⌜ ReadAsWritten ⌝ }
     ensures bracket { λ _. ⌜ AnswersBracket ⌝ }

@@ -1,5 +1,5 @@
-use Rattle.theory.proofs.Listed.{values-listed}
+use Rattle.theory.proofs.Listed.{values-listed, points-listed}
 use Rattle.theory.proofs.values_are_listed.Needs as need
 
 pub returns : need.returns
-returns c = values-listed
+returns c = record { listed = values-listed; points = points-listed }
