@@ -1,13 +1,13 @@
 -- Fractions with denominators above 0: sums, differences, order and scaling. Assumes nothing.
 use mathlib.Core.Path.{_≡_, refl, sym, ap₂}
 use mathlib.Core.List.{List, [], _∷_}
-use Prim.Native.Nat.{ℕ, _+_, _<_}
+use Prim.Native.Nat.{_<_}
 use native.Mathlib.Omega.{arith}
 use native.Mathlib.Nat.{mul-pos, mul-comm, mul-assoc, one-mul}
 use borrow.Author.Differences.{ints}
 use lib.IntN.{ℤ, pos, _+ℤ_, _*ℤ_}
 use lib.Signed.{_≤ℤ_}
-use Rattle.exact.specs.Fractions.{Fraction, ratio, whole, _+F_, _-F_, negF, scaled, _≤F_, _≈F_}
+use Rattle.exact.specs.Fractions.{Fraction, whole, _+F_, _-F_, negF, scaled, _≤F_, _≈F_}
 use Rattle.exact.proofs.Ring.{Expr, var, con, _⊕_, _⊗_, ⊖_, one-times, solve}
 use Rattle.exact.proofs.Certificates.{Fact, _≼_, hyp, _⊞_, _⊠_, natural, prove≤}
 use Rattle.exact.proofs.Order.{≤ℤ-of-≡, *ℤ-cancel-≤ℤ, pos-≤ℤ}
@@ -77,10 +77,6 @@ pub ≤F-move : (p q r : Fraction) → p ≤F (q +F r) → (p -F r) ≤F q
 ≤F-move p q r h =
     prove≤ (parts p q r r) ((P ≼F (Q ⊹ R)) ∷ []) (hyp 0) (lhs (P ⊹ negative R) Q) (lhs Q (P ⊹ negative R)) tt (h, tt)
 
-pub ≤F-move-back : (p q r : Fraction) → (p -F r) ≤F q → p ≤F (q +F r)
-≤F-move-back p q r h =
-    prove≤ (parts p q r r) (((P ⊹ negative R) ≼F Q) ∷ []) (hyp 0) (lhs P (Q ⊹ R)) (lhs (Q ⊹ R) P) tt (h, tt)
-
 pub ≤F-neg : (p q : Fraction) → p ≤F q → negF q ≤F negF p
 ≤F-neg p q h = prove≤ (parts p q q q) ((P ≼F Q) ∷ []) (hyp 0) (lhs (negative Q) (negative P)) (lhs (negative P) (negative Q)) tt (h, tt)
 
@@ -88,9 +84,6 @@ pub ≤F-scaled : (z : ℤ) (p q : Fraction) → pos 0 ≤ℤ z → p ≤F q →
 ≤F-scaled z p q not-negative h =
     prove≤ (p .num ∷ pos (p .den) ∷ q .num ∷ pos (q .den) ∷ z ∷ []) ((P ≼F Q) ∷ (con (pos 0) ≼ var 4) ∷ []) (hyp 0 ⊠ hyp 1)
     (lhs (times (var 4) P) (times (var 4) Q)) (lhs (times (var 4) Q) (times (var 4) P)) tt (h, (not-negative, tt))
-
-pub whole-≤F : (a b : ℤ) → a ≤ℤ b → whole a ≤F whole b
-whole-≤F a b h = omega (arith, ints)
 
 pub ≤F-whole : (a b : ℤ) → whole a ≤F whole b → a ≤ℤ b
 ≤F-whole a b h = omega (arith, ints)
@@ -101,9 +94,6 @@ pub ≈F-from : (p q : Fraction) → p .num *ℤ pos (q .den) ≡ q .num *ℤ po
 
 pub ≈F-of-≡ : (p q : Fraction) → p ≡ q → p ≈F q
 ≈F-of-≡ p q e = ≈F-from p q (ap₂ (λ a b. a .num *ℤ pos (b .den)) e (sym e))
-
-pub ≈F-sym : (p q : Fraction) → p ≈F q → q ≈F p
-≈F-sym p q e = (e .1, e .0)
 
 pub ≈F-trans : (p q r : Fraction) → 0 < q .den → p ≈F q → q ≈F r → p ≈F r
 ≈F-trans p q r above e f = (≤F-trans p q r above (e .0) (f .0), ≤F-trans r q p above (f .1) (e .1))
@@ -157,11 +147,3 @@ four-times p =
     let sum = P ⊹ (P ⊹ (P ⊹ (P ⊹ nil))) in
     let product = times (con (pos 4)) P in
     ≈F-from (p +F (p +F (p +F (p +F whole (pos 0))))) (scaled (pos 4) p) (solve (parts p p p p) (lhs sum product) (lhs product sum) tt)
-
--- two fractions over one denominator
-pub ratio-+F : (m n d : ℕ) → (ratio m d +F ratio n d) ≈F ratio (m + n) d
-ratio-+F m n d =
-    let M : Frac = record { n = var 0; d = var 2 } in
-    let N : Frac = record { n = var 1; d = var 2 } in
-    let MN : Frac = record { n = var 0 ⊕ var 1; d = var 2 } in
-    ≈F-from (ratio m d +F ratio n d) (ratio (m + n) d) (solve (pos m ∷ pos n ∷ pos d ∷ []) (lhs (M ⊹ N) MN) (lhs MN (M ⊹ N)) tt)

@@ -2,8 +2,7 @@
 use mathlib.Core.Path.{_≡_}
 use mathlib.Core.Bool.{Bool, true, _&&_}
 use mathlib.Core.List.{List}
-use Prim.Native.Nat.{ℕ, _*_, _^_}
-use lib.Dec.{ltb}
+use Prim.Native.Nat.{ℕ, _*_}
 use lib.IntN.{ℤ, pos, _+ℤ_, _-ℤ_, _*ℤ_, natAbs}
 use Rattle.std.specs.shelf.Lists.{sumBy}
 use Rattle.exact.specs.Rounding.{up}
@@ -12,7 +11,7 @@ use Rattle.rules.specs.declared.Triangle.{Triangle}
 use Rattle.rules.specs.declared.Corners.{Corners}
 use Rattle.rules.specs.declared.OutlineEdge.{OutlineEdge}
 use Rattle.rules.specs.declared.OutlineEdge.the-variants.{Closed, Held}
-use Rattle.rules.specs.Limits.{counts, inReach, inReachAlong}
+use Rattle.rules.specs.Limits.{belowCap, counts, inReach, inReachAlong}
 use Rattle.rules.specs.Numbers.{plateOf}
 use Rattle.rules.specs.Triangles.{area2, turned, norm}
 use Rattle.rules.specs.Plates.{Plate, Values, cornersOf}
@@ -47,10 +46,10 @@ abbrev pub allInReach : Values → List Triangle → Bool
 allInReach u ts = every (λ t. inReach t (cornersOf u t)) ts
 
 abbrev pub upperInReach : Values → Plate → Bool
-upperInReach u m = allInReach u (m .triangles) && ltb (upper u (m .triangles)) (2 ^ 62)
+upperInReach u m = allInReach u (m .triangles) && belowCap (upper u (m .triangles))
 
 abbrev pub lowerInReach : Values → Plate → Bool
-lowerInReach s m = every (inReachAlong s) (m .outline) && (allInReach s (m .triangles) && ltb (upDrag s (m .triangles)) (2 ^ 62))
+lowerInReach s m = every (inReachAlong s) (m .outline) && (allInReach s (m .triangles) && belowCap (upDrag s (m .triangles)))
 
 -- a plate's numbers zs, a field u and a stream s whose two numbers are computed
 abbrev pub bothInReach : List ℤ → Values → Values → Bool

@@ -23,6 +23,14 @@ use Rattle.rules.specs.Triangles.{proper, turned}
 abbrev pub near : ℕ → ℤ → Bool
 near b z = leb (natAbs z) b
 
+-- a value, or a temperature
+abbrev pub nearValue : ℤ → Bool
+nearValue z = near (2 ^ 20) z
+
+-- below 2^62, where sums of quotients end
+abbrev pub belowCap : ℕ → Bool
+belowCap n = ltb n (2 ^ 62)
+
 abbrev pub nearPoint : Point → Bool
 nearPoint p = near 32768 (p .x) && near 32768 (p .y)
 
@@ -36,7 +44,7 @@ nearEdge e = nearPoint (e .from) && nearPoint (e .to)
 -- an outline edge whose coordinates and, where it is held, temperatures are within the limits
 unfoldable pub mild : OutlineEdge → Bool
 mild (Closed e) = nearEdge e
-mild (Held e g h) = nearEdge e && (near (2 ^ 20) g && near (2 ^ 20) h)
+mild (Held e g h) = nearEdge e && (nearValue g && nearValue h)
 
 unfoldable pub modestPlate : Plate → Bool
 modestPlate m = every modest (m .triangles) && every mild (m .outline)
@@ -55,7 +63,7 @@ abbrev pub allMarked : List ℤ → Bool
 allMarked zs = every (marked zs) (counting 0 (outlineCount zs))
 
 abbrev pub nearCorners : Corners → Bool
-nearCorners u = near (2 ^ 20) (u .a) && (near (2 ^ 20) (u .b) && near (2 ^ 20) (u .c))
+nearCorners u = nearValue (u .a) && (nearValue (u .b) && nearValue (u .c))
 
 -- not too steep: what is squared stays below 2^30
 abbrev pub gentle : Vector → Bool
@@ -68,4 +76,4 @@ inReach t u = (modest t && nearCorners u) && (proper t && gentle (turned t u))
 -- an outline edge and values of which the work is computed: the temperatures and the values at the ends of a held edge are within the limits
 unfoldable pub inReachAlong : Values → OutlineEdge → Bool
 inReachAlong s (Closed e) = true
-inReachAlong s (Held e g h) = (near (2 ^ 20) g && near (2 ^ 20) h) && (near (2 ^ 20) (s (e .from)) && near (2 ^ 20) (s (e .to)))
+inReachAlong s (Held e g h) = (nearValue g && nearValue h) && (nearValue (s (e .from)) && nearValue (s (e .to)))

@@ -1,7 +1,6 @@
 -- Settled fields and streams: no admitted change by one betters them. Assumes nothing.
 use mathlib.Core.Bool.{Bool, _&&_, _||_, not, cond}
 use mathlib.Core.List.{List, [], _∷_}
-use Prim.Native.Nat.{_^_}
 use lib.Dec.{leb}
 use lib.IntN.{ℤ, pos, negsuc, _+ℤ_}
 use lib.Signed.{leZ}
@@ -12,7 +11,7 @@ use Rattle.rules.specs.declared.OutlineEdge.{OutlineEdge}
 use Rattle.rules.specs.declared.OutlineEdge.the-variants.{Closed, Held}
 use Rattle.rules.specs.Bounds.{upper, lower}
 use Rattle.rules.specs.Energy.{isField, isStream}
-use Rattle.rules.specs.Limits.{near}
+use Rattle.rules.specs.Limits.{nearValue}
 use Rattle.rules.specs.Numbers.{plateOf}
 use Rattle.rules.specs.Plates.{Plate, Values, samePoint, among, noted, pointsOf, valuesOf}
 use Rattle.rules.specs.Verdicts.{upperOf, lowerOf}
@@ -28,7 +27,7 @@ changed u p d q = cond (samePoint p q) (u q +ℤ d) (u q)
 
 -- v, which differs only at p from a field within the limits, is one too
 unfoldable pub admitted : Plate → Point → Values → Bool
-admitted m p v = isField v m && (near (2 ^ 20) (v p) && upperWithin v m)
+admitted m p v = isField v m && (nearValue (v p) && upperWithin v m)
 
 -- changed at p by d, u isn't admitted or no better
 unfoldable pub resists : Plate → Values → Point → ℤ → Bool
@@ -56,7 +55,7 @@ abbrev pub changedAll : Values → List Point → ℤ → Values
 changedAll s ps d q = cond (among q ps) (s q +ℤ d) (s q)
 
 unfoldable pub admittedStream : Plate → Point → Values → Bool
-admittedStream m p v = isStream v m && (near (2 ^ 20) (v p) && dragWithin v m)
+admittedStream m p v = isStream v m && (nearValue (v p) && dragWithin v m)
 
 unfoldable pub resistsStream : Plate → Values → Point → ℤ → Bool
 resistsStream m s p d = let v = changedAll s (group m p) d in not (admittedStream m p v) || leZ (lower v m) (lower s m)

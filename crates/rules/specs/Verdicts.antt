@@ -1,7 +1,7 @@
 -- What each call answers: 0, or the number of the first refusal that applies; and the two numbers of plates and values in rows. Assumes nothing.
 use mathlib.Core.Bool.{Bool, _&&_, cond}
 use mathlib.Core.List.{List}
-use Prim.Native.Nat.{ℕ, _+_, _^_}
+use Prim.Native.Nat.{ℕ, _+_}
 use lib.Dec.{eqb, ltb}
 use lib.IntN.{ℤ, pos}
 use lib.ListN.{length}
@@ -10,7 +10,7 @@ use Rattle.rules.specs.Bounds.{upper, lower}
 use Rattle.rules.specs.Energy.{isField, isStream}
 use Rattle.rules.specs.Finer.{finer}
 use Rattle.rules.specs.Lawful.{lawful}
-use Rattle.rules.specs.Limits.{near, counts, allMarked, modestPlate}
+use Rattle.rules.specs.Limits.{nearValue, counts, allMarked, modestPlate}
 use Rattle.rules.specs.Numbers.{plateOf}
 use Rattle.rules.specs.Plates.{Plate, Values, pointsOf, valuesOf}
 use Rattle.rules.specs.Within.{upperWithin, dragWithin}
@@ -35,7 +35,7 @@ plateVerdict zs =
 
 -- ---- values
 abbrev pub allNear : List ℤ → Bool
-allNear zs = every (near (2 ^ 20)) zs
+allNear zs = every nearValue zs
 
 -- a number for each point of the plate, none of them too large
 unfoldable pub fills : Plate → List ℤ → Bool
