@@ -1,4 +1,5 @@
--- What is promised of every lawful plate. Each promise is a type; a proof of it is the theorem. Assumes nothing.
+-- What is promised of every lawful plate, and what it means that two triangles are parted and that points are of one group. Each promise
+-- is a type; a proof of it is the theorem. Assumes nothing.
 use mathlib.Core.Path.{_≡_}
 use mathlib.Core.Bool.{Bool, true, false}
 use mathlib.Core.List.{List·Memᴰ}
@@ -26,6 +27,10 @@ scale n = pos (4 ^ n)
 -- NO FIELD SPENDS LESS THAN ANY STREAM SAYS
 abbrev pub Below : Type 0
 Below = (m : Plate) → lawful m ≡ true → (u s : Values) → isField u m ≡ true → isStream s m ≡ true → says s m ≤F spent u (m .triangles)
+
+-- what is spent and said are fractions with a denominator above 0, so that to be at most each other is what it should be
+abbrev pub DenominatorsAbove : Type 0
+DenominatorsAbove = (m : Plate) → lawful m ≡ true → (u s : Values) → (0 < spent u (m .triangles) .den) × (0 < says s m .den)
 
 -- a finer plate is lawful
 abbrev pub FinerLawful : Type 0

@@ -2,12 +2,14 @@
 use mathlib.Core.Path.{_≡_, sym, ap, ap₂, subst, _∙_}
 use mathlib.Core.Bool.{true}
 use mathlib.Core.List.{List, [], _∷_, List·Memᴰ}
+use Prim.Native.Nat.{_<_}
+use native.Mathlib.Omega.{arith}
 use lib.IntN.{ℤ, pos, negℤ, _+ℤ_, +ℤ-idr}
-use Rattle.exact.specs.Fractions.{Fraction, whole, _+F_, sumF, _≤F_}
+use Rattle.exact.specs.Fractions.{Fraction, whole, negF, _+F_, sumF, _≤F_}
 use Rattle.exact.specs.Lists.{sumZ}
 use Rattle.exact.proofs.Certificates.{_≈_, prove≡}
-use Rattle.exact.proofs.Fractions.{≤F-move}
-use Rattle.exact.proofs.FractionSums.{sumF-+F, sumF-whole, sumF-≤F}
+use Rattle.exact.proofs.Fractions.{+F-den, ≤F-move}
+use Rattle.exact.proofs.FractionSums.{sumF-den, sumF-+F, sumF-whole, sumF-≤F}
 use Rattle.exact.proofs.Ring.{var, con, _⊕_, _⊗_, _⊝_, ⊖_, solve}
 use Rattle.exact.proofs.Sums.{sumZ-cong, sumZ-cong-mem, sumZ-flatMap, sumZ-map}
 use Rattle.rules.specs.declared.Edge.{Edge}
@@ -17,13 +19,14 @@ use Rattle.rules.specs.declared.OutlineEdge.the-variants.{Closed, Held}
 use Rattle.rules.specs.Bounds.{work, workAlong}
 use Rattle.rules.specs.Edges.{edgesIn}
 use Rattle.rules.specs.Energy.{isField, isStream, spent, drag, says}
-use Rattle.rules.specs.Lawful.{edges, edgeOf, outlineEdges}
+use Rattle.rules.specs.Lawful.{edges, edgeOf, outlineEdges, lawful}
 use Rattle.rules.specs.Plates.{Plate, Values, cornersOf}
-use Rattle.rules.specs.Promises.{Below}
+use Rattle.rules.specs.Promises.{Below, DenominatorsAbove}
 use Rattle.rules.specs.Triangles.{spentIn, dragIn, exchange, around}
 use Rattle.theory.proofs.Cancel.{cancel}
 use Rattle.theory.proofs.Facts.{Facts, facts}
 use Rattle.theory.proofs.Known.{field-at, stream-at}
+use Rattle.theory.proofs.Rounding.{above}
 use Rattle.theory.proofs.Triangles.{local-law}
 
 -- ---- the exchange along an edge
@@ -79,3 +82,17 @@ below m ok u s field stream =
     let total = sumF-whole (λ t. around (cornersOf u t) (cornersOf s t)) ts ∙ ap whole (all-work u s m field stream (facts m ok)) in
     ≤F-move (whole (work s (m .outline))) (sumF spends ts) (sumF drags ts)
     (subst (λ p. p ≤F (sumF spends ts +F sumF drags ts)) total (subst (λ q. sumF exchanged ts ≤F q) (sumF-+F spends drags ts) each))
+
+-- ---- denominators
+pub spent-den : (m : Plate) → lawful m ≡ true → (u : Values) → 0 < spent u (m .triangles) .den
+unfolding spent
+spent-den m ok u = sumF-den (λ t. spentIn t (cornersOf u t)) (m .triangles) (λ t at. above t (facts m ok .is-proper t at) .0)
+
+pub says-den : (m : Plate) → lawful m ≡ true → (s : Values) → 0 < says s m .den
+unfolding says drag
+says-den m ok s =
+    +F-den (whole (work s (m .outline))) (negF (drag s (m .triangles))) (omega arith)
+    (sumF-den (λ t. dragIn t (cornersOf s t)) (m .triangles) (λ t at. above t (facts m ok .is-proper t at) .1))
+
+pub denominators-above : DenominatorsAbove
+denominators-above m ok u s = (spent-den m ok u, says-den m ok s)

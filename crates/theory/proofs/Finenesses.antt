@@ -5,35 +5,20 @@ use Prim.Native.Nat.{ℕ, zero, suc, _+_, _^_, _<_}
 use native.Mathlib.Nat.{add-zero, add-suc, pow-suc}
 use native.Mathlib.Omega.{arith}
 use lib.IntN.{pos, _*ℤ_}
-use Rattle.exact.specs.Fractions.{Fraction, whole, scaled, negF, _≤F_, _≈F_}
+use Rattle.exact.specs.Fractions.{Fraction, whole, scaled, _≤F_, _≈F_}
 use Rattle.exact.proofs.Certificates.{natural}
-use Rattle.exact.proofs.Fractions.{+F-den, ≤F-trans, ≤F-scaled, ≤F-whole, ≈F-of-≡, ≈F-trans, ≈F-scaled, scaled-one, scaled-scaled}
-use Rattle.exact.proofs.FractionSums.{sumF-den}
-use Rattle.rules.specs.Bounds.{upper, lower, work}
-use Rattle.rules.specs.Energy.{isField, isStream, spent, drag, says}
+use Rattle.exact.proofs.Fractions.{≤F-trans, ≤F-scaled, ≤F-whole, ≈F-of-≡, ≈F-trans, ≈F-scaled, scaled-one, scaled-scaled}
+use Rattle.rules.specs.Bounds.{upper, lower}
+use Rattle.rules.specs.Energy.{isField, isStream, spent, says}
 use Rattle.rules.specs.Finer.{finer, finest, Carried, carried}
 use Rattle.rules.specs.Lawful.{lawful}
-use Rattle.rules.specs.Plates.{Plate, Values, cornersOf}
+use Rattle.rules.specs.Plates.{Plate, Values}
 use Rattle.rules.specs.Promises.{scale, HoweverFine, Between, Bracketed}
-use Rattle.rules.specs.Triangles.{spentIn, dragIn}
-use Rattle.theory.proofs.Below.{below}
+use Rattle.theory.proofs.Below.{below, spent-den, says-den}
 use Rattle.theory.proofs.Carried.{fields-carried, streams-carried}
 use Rattle.theory.proofs.Carries.{carried-there}
 use Rattle.theory.proofs.FinerLawful.{finer-lawful}
-use Rattle.theory.proofs.Facts.{facts}
 use Rattle.theory.proofs.Printed.{printed}
-use Rattle.theory.proofs.Rounding.{above}
-
--- ---- denominators
-spent-den : (m : Plate) → lawful m ≡ true → (u : Values) → 0 < spent u (m .triangles) .den
-unfolding spent
-spent-den m ok u = sumF-den (λ t. spentIn t (cornersOf u t)) (m .triangles) (λ t at. above t (facts m ok .is-proper t at) .0)
-
-says-den : (m : Plate) → lawful m ≡ true → (s : Values) → 0 < says s m .den
-unfolding says drag
-says-den m ok s =
-    +F-den (whole (work s (m .outline))) (negF (drag s (m .triangles))) (omega arith)
-    (sumF-den (λ t. dragIn t (cornersOf s t)) (m .triangles) (λ t at. above t (facts m ok .is-proper t at) .1))
 
 -- ---- what is printed, to scale
 printed-low : (n : ℕ) (m : Plate) → lawful m ≡ true → (s : Values) → whole (scale n *ℤ lower s m) ≤F scaled (scale n) (says s m)

@@ -1,6 +1,6 @@
 //! The theorems, each named in the contract of a function, so that a check asks for its proof.
 ghost use Rattle.rules.specs.Laws.{Cross, Squares, LocalLaw, PartsAlike, RoundedUp, ValuesListed, PointsListed};
-ghost use Rattle.rules.specs.Promises.{Below, FinerLawful, CarriedThere, FieldsCarried, StreamsCarried, HoweverFine, Printed, Between, PrintedCarried, Bracketed, PartedMeans, NotPartedMeans, GroupsJoined, GroupsKept, GroupsAlike};
+ghost use Rattle.rules.specs.Promises.{Below, DenominatorsAbove, FinerLawful, CarriedThere, FieldsCarried, StreamsCarried, HoweverFine, Printed, Between, PrintedCarried, Bracketed, PartedMeans, NotPartedMeans, GroupsJoined, GroupsKept, GroupsAlike};
 ghost use Rattle.rules.specs.Calls.{ReadAsWritten, AnswersBracket, FinerTaken, CarriedTaken, CarriedFourTimes};
 ghost use Rattle.rules.specs.Table.{TableHolds};
 
@@ -35,9 +35,10 @@ pub fn values_are_listed() -> u8
     0
 }
 
-/// No field on a lawful plate spends less than any stream says.
+/// No field on a lawful plate spends less than any stream says, both being fractions with a denominator above 0.
 pub fn no_field_spends_less() -> u8
-    ensures { λ _. ⌜ Below ⌝ }
+    ensures below { λ _. ⌜ Below ⌝ }
+    ensures denominators { λ _. ⌜ DenominatorsAbove ⌝ }
 {
     0
 }
