@@ -22,9 +22,9 @@ more : (b : Bool) (n : ℕ) → cond b (suc n) n ≡ one b + n
 more true n = omega arith
 more false n = omega arith
 
-one-more : (b c : Bool) → (b ≡ true → c ≡ true) → one b ≤ one c
-one-more true c h = let is = ap one (h refl) in omega arith
-one-more false c h = omega arith
+one-at-most : (b c : Bool) → (b ≡ true → c ≡ true) → one b ≤ one c
+one-at-most true c h = let is = ap one (h refl) in omega arith
+one-at-most false c h = omega arith
 
 module _ {A : Type 0} where
   -- ---- all pass a test
@@ -91,7 +91,7 @@ module _ {A : Type 0} where
       let rest = count-more p q xs (λ y m. h y (List·Memᴰ·tail m)) in
       let left = count-cons p x xs in
       let right = count-cons q x xs in
-      let here = one-more (p x) (q x) (h x (List·Memᴰ·head refl)) in
+      let here = one-at-most (p x) (q x) (h x (List·Memᴰ·head refl)) in
       omega arith
 
   pub count-one-more : (p q : A → Bool) (xs : List A) → ((x : A) → List·Memᴰ x xs → p x ≡ true → q x ≡ true) → (x : A) → List·Memᴰ x xs → p x ≡ false → q x ≡ true → count p xs < count q xs
@@ -107,7 +107,7 @@ module _ {A : Type 0} where
       let rest = count-one-more p q ys (λ z n. h z (List·Memᴰ·tail n)) x m fails passes in
       let left = count-cons p y ys in
       let right = count-cons q y ys in
-      let here = one-more (p y) (q y) (h y (List·Memᴰ·head refl)) in
+      let here = one-at-most (p y) (q y) (h y (List·Memᴰ·head refl)) in
       omega arith
 
   pub count-all : (p : A → Bool) (xs : List A) → length xs ≤ count p xs → (x : A) → List·Memᴰ x xs → p x ≡ true

@@ -1,7 +1,7 @@
 -- What is promised of one triangle, and of values in a row. Each is a type; a proof of it is the theorem. Assumes nothing.
 use mathlib.Core.Path.{_≡_}
 use mathlib.Core.Bool.{true, false}
-use mathlib.Core.List.{List}
+use mathlib.Core.List.{List, List·Memᴰ}
 use Prim.Native.Nat.{ℕ, _<_}
 use lib.IntN.{ℤ, pos, _+ℤ_, _-ℤ_, _*ℤ_}
 use lib.ListN.{length, getD}
@@ -10,7 +10,8 @@ use Rattle.rules.specs.declared.Point.{Point}
 use Rattle.rules.specs.declared.Triangle.{Triangle}
 use Rattle.rules.specs.declared.Corners.{Corners}
 use Rattle.rules.specs.Bounds.{upperIn, upDragIn}
-use Rattle.rules.specs.Plates.{Plate, samePoint, pointsOf, valuesAt, valuesOf}
+use Rattle.rules.specs.Edges.{Corner, corner}
+use Rattle.rules.specs.Plates.{Plate, samePoint, among, pointsOf, valuesAt, valuesOf}
 use Rattle.rules.specs.Triangles.{area2, proper, turned, norm, spentIn, dragIn, around}
 use Rattle.rules.specs.Parts.{Part, part, carriedTo}
 
@@ -53,3 +54,9 @@ ValuesListed =
 abbrev pub PointsListed : Type 0
 PointsListed =
     (m : Plate) (zs : List ℤ) (i : ℕ) (d : Point) → let ps = pointsOf (m .triangles) in i < length ps → valuesOf m zs (getD ps i d) ≡ getD zs i (pos 0)
+
+-- and these points are just the corners of its triangles
+abbrev pub PointsAreCorners : Type 0
+PointsAreCorners =
+    (m : Plate) → ((p : Point) → among p (pointsOf (m .triangles)) ≡ true → (t : Triangle) × (i : Corner) × List·Memᴰ t (m .triangles) × (p ≡ corner t i)) ×
+    ((t : Triangle) (i : Corner) → List·Memᴰ t (m .triangles) → among (corner t i) (pointsOf (m .triangles)) ≡ true)

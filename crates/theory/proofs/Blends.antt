@@ -8,12 +8,11 @@ use lib.Signed.{_≤ℤ_, _<ℤ_}
 use Rattle.std.proofs.shelf.Signed.{by-ltZ}
 use Rattle.exact.proofs.Certificates.{_≼_, hyp, lit, _⊞_, _⊠_, prove≤}
 use Rattle.exact.proofs.Mixes.{Mix, alone, mixed}
-use Rattle.exact.proofs.Order.{never, one-more, below}
+use Rattle.exact.proofs.Order.{never, one-more, below, product-above}
 use Rattle.exact.proofs.Ring.{Expr, var, con, _⊕_, _⊗_, _⊝_, solve}
 use Rattle.rules.specs.Edges.{Corner, A, B, C, next}
-use Rattle.theory.proofs.Corners.{prev, thrice}
-use Rattle.theory.proofs.Plane.{product-above}
-use Rattle.theory.proofs.Threes.{near, highest, sum}
+use Rattle.theory.proofs.Corners.{prev, near, thrice}
+use Rattle.theory.proofs.Threes.{highest, sum}
 
 -- ---- a way from (x, y) by (x′, y′) to (x″, y″) that turns left: where it ends up to the left it does not fall first, nor go back to the right
 module _ (x y x′ y′ x″ y″ : ℤ) (turn : pos 0 <ℤ (((x′ -ℤ x) *ℤ (y″ -ℤ y)) -ℤ ((y′ -ℤ y) *ℤ (x″ -ℤ x)))) where

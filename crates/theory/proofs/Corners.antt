@@ -7,11 +7,11 @@ use native.Mathlib.Omega.{arith}
 use borrow.Author.Differences.{ints}
 use lib.Dec.{ltb}
 use lib.IntN.{ℤ, pos, _+ℤ_, _*ℤ_, +ℤ-comm}
-use lib.Signed.{_<ℤ_, ltZ}
+use lib.Signed.{_≤ℤ_, _<ℤ_, ltZ}
 use Rattle.std.proofs.shelf.Signed.{by-ltZ}
 use Rattle.std.proofs.shelf.Tests.{and-parts}
 use Rattle.exact.proofs.Certificates.{_≼_, _≈_, hyp, sqr, _⊞_, _⊠_, prove≤, prove≡}
-use Rattle.exact.proofs.Order.{one-more, never}
+use Rattle.exact.proofs.Order.{factor-out, one-more, never}
 use Rattle.exact.proofs.Ring.{Expr, con, _⊕_, _⊗_, _⊝_, ⊖_, solve}
 use Rattle.rules.specs.declared.Point.{Point}
 use Rattle.rules.specs.declared.Triangle.{Triangle}
@@ -19,10 +19,27 @@ use Rattle.rules.specs.declared.Vector.{Vector}
 use Rattle.rules.specs.Edges.{Corner, A, B, C, next, corner, edge, direction, vector, across}
 use Rattle.rules.specs.Parts.{middle}
 use Rattle.rules.specs.Triangles.{area2, proper}
-use Rattle.theory.proofs.Plane.{Pair, pair, Across, Along, To, Straight, factor-out, squared}
+use Rattle.theory.proofs.Plane.{Pair, pair, Across, Along, To, Straight, squared}
 
 abbrev pub prev : Corner → Corner
 prev i = next (next i)
+
+pub thrice : (i : Corner) → next (prev i) ≡ i
+thrice A = refl
+thrice B = refl
+thrice C = refl
+
+-- a corner is another one, the next or the one before
+pub near : (P : Corner → Corner → Type 0) → ((j : Corner) → P j j) → ((j : Corner) → P j (next j)) → ((j : Corner) → P j (prev j)) → (j k : Corner) → P j k
+near P same after before A A = same A
+near P same after before A B = after A
+near P same after before A C = before A
+near P same after before B A = before B
+near P same after before B B = same B
+near P same after before B C = after B
+near P same after before C A = after C
+near P same after before C B = before C
+near P same after before C C = same C
 
 -- the middle of an edge, doubled
 abbrev pub mid : Triangle → Corner → Point
@@ -71,17 +88,15 @@ higher t i = over (corner t i) (corner t (next i)) (corner t (prev i)) (t .k) .1
 pub area-above : (t : Triangle) → proper t ≡ true → pos 0 <ℤ area2 t
 area-above t ok = let is = and-parts (ltZ (pos 0) (area2 t)) (ltb 0 (t .k)) ok .0 in omega (arith, ints)
 
+-- no corner lies below an edge
+pub none-below : (t : Triangle) → proper t ≡ true → (i j : Corner) → across (direction (edge t i)) (corner t i) ≤ℤ across (direction (edge t i)) (corner t j)
+none-below t ok =
+    near (λ i j. across (direction (edge t i)) (corner t i) ≤ℤ across (direction (edge t i)) (corner t j))
+    (λ i. omega (arith, ints)) (λ i. let e = level t i in omega (arith, ints)) (λ i. let e = higher t i in let up = area-above t ok in omega (arith, ints))
+
 -- ---- no two corners are one, and no two middles
-pub which : (f : Corner → Point) → ((i : Corner) → f i ≡ f (next i) → ⊥) → (i j : Corner) → f i ≡ f j → i ≡ j
-which f differ A A e = refl
-which f differ A B e = absurd (differ A e)
-which f differ A C e = absurd (differ C (sym e))
-which f differ B A e = absurd (differ A (sym e))
-which f differ B B e = refl
-which f differ B C e = absurd (differ B e)
-which f differ C A e = absurd (differ C e)
-which f differ C B e = absurd (differ B (sym e))
-which f differ C C e = refl
+which : (f : Corner → Point) → ((i : Corner) → f i ≡ f (next i) → ⊥) → (i j : Corner) → f i ≡ f j → i ≡ j
+which f differ = near (λ i j. f i ≡ f j → i ≡ j) (λ i. λ e. refl) (λ i. λ e. absurd (differ i e)) (λ i. λ e. absurd (differ (prev i) (sym e ∙ ap f (sym (thrice i)))))
 
 no-way : (p r : Point) → across (vector p p) r ≡ pos 0
 unfolding across
@@ -108,11 +123,6 @@ middle-cancel p q r e =
   where
     cancel : (a b c : ℤ) → a +ℤ b ≡ b +ℤ c → a ≡ c
     cancel a b c e = omega (arith, ints)
-
-pub thrice : (i : Corner) → next (prev i) ≡ i
-thrice A = refl
-thrice B = refl
-thrice C = refl
 
 middles-differ : (t : Triangle) → proper t ≡ true → (i : Corner) → mid t i ≡ mid t (next i) → ⊥
 middles-differ t ok i e =

@@ -7,7 +7,6 @@ use Prim.Native.Nat.{ℕ, zero, suc, _<_}
 use native.Mathlib.Omega.{arith}
 use borrow.Author.Differences.{ints}
 use lib.IntN.{negℤ}
-use lib.Signed.{_≤ℤ_}
 use Rattle.std.proofs.shelf.Tests.{and-from, and-parts, true≢false}
 use Rattle.exact.specs.Lists.{count}
 use Rattle.exact.proofs.Members.{count-map, count-cong, count-none, count-some, count-one, only-one}
@@ -18,23 +17,20 @@ use Rattle.rules.specs.Edges.{Corner, A, B, C, next, corner, edge, edgesIn, bac
 use Rattle.rules.specs.Lawful.{edges, times}
 use Rattle.rules.specs.Plates.{Plate}
 use Rattle.rules.specs.Triangles.{proper}
-use Rattle.theory.proofs.Corners.{prev, mid, level, higher, area-above, middle-index, corner-index}
+use Rattle.theory.proofs.Corners.{prev, near, mid, level, higher, area-above, none-below, middle-index, corner-index}
 use Rattle.theory.proofs.Facts.{Facts, edge-in, edge-index, edge-among}
 use Rattle.theory.proofs.Halves.{Side, begin, end, half}
 use Rattle.theory.proofs.Insides.{across-back}
-use Rattle.theory.proofs.Meetings.{In, link, low-or-high, no-middle, same-middle}
+use Rattle.theory.proofs.Meetings.{In, link, no-middle, same-middle}
 use Rattle.theory.proofs.Pieces.{Piece, halved, inner, outer, piece, pieces, tips-differ}
 use Rattle.theory.proofs.Sameness.{edge-is, sameEdge-refl, sameEdge-from, sameEdge-not, tests-equal}
 
 -- ---- no triangle lies above both sides of an edge
-above : (t : Triangle) → proper t ≡ true → (l c : Corner) → across (direction (edge t l)) (corner t l) ≤ℤ across (direction (edge t l)) (corner t c)
-above t ok l c = ⊎-elim (λ low. let e = low .0 in omega (arith, ints)) (λ high. let up = higher t l in let area = area-above t ok in let e = ap (λ n. across (direction (edge t l)) (corner t n)) high in omega (arith, ints)) (low-or-high t l c)
-
 no-back : (s t : Triangle) → proper s ≡ true → proper t ≡ true → (i l c : Corner) → edge t l ≡ back (edge s i) → corner t c ≡ corner s (prev i) → ⊥
 no-back s t ps pt i l c e f =
     let d = direction (edge s i) in
     let turned : (r : Point) → across (direction (edge t l)) r ≡ negℤ (across d r) = λ r. ap (λ g. across (direction g) r) e ∙ across-back (corner s i) (corner s (next i)) r in
-    let up = above t pt l c in
+    let up = none-below t pt l c in
     let here = turned (corner t l) in
     let there = turned (corner t c) in
     let start = ap (λ g. across d (g .from)) e in
@@ -85,15 +81,7 @@ some-or-none zero = inr refl
 some-or-none (suc n) = inl (omega arith)
 
 other-ends : (i j : Corner) → (i ≡ j → ⊥) → (prev i ≡ j) ⊎ (prev i ≡ next j)
-other-ends A A h = absurd (h refl)
-other-ends A B h = inr refl
-other-ends A C h = inl refl
-other-ends B A h = inl refl
-other-ends B B h = absurd (h refl)
-other-ends B C h = inr refl
-other-ends C A h = inr refl
-other-ends C B h = inl refl
-other-ends C C h = absurd (h refl)
+other-ends = near (λ i j. (i ≡ j → ⊥) → (prev i ≡ j) ⊎ (prev i ≡ next j)) (λ i. λ h. absurd (h refl)) (λ i. λ h. inr refl) (λ i. λ h. inl refl)
 
 module _ (m : Plate) (known : Facts m) where
   -- two edges of s whose middles are those of two edges of t: they are the same edges

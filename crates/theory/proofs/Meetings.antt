@@ -10,11 +10,11 @@ use Rattle.rules.specs.declared.Point.{Point}
 use Rattle.rules.specs.declared.Edge.{Edge}
 use Rattle.rules.specs.declared.Triangle.{Triangle}
 use Rattle.rules.specs.declared.Vector.{Vector}
-use Rattle.rules.specs.Edges.{Corner, A, B, C, next, corner, edge, back, direction, across}
+use Rattle.rules.specs.Edges.{Corner, next, corner, edge, back, direction, across}
 use Rattle.rules.specs.Parts.{middle, twice}
 use Rattle.rules.specs.Plates.{Plate, Values}
 use Rattle.rules.specs.Triangles.{area2, proper}
-use Rattle.theory.proofs.Corners.{prev, mid, thrice, middle-comm, level, higher, area-above, straight-edge, not-flat}
+use Rattle.theory.proofs.Corners.{prev, near, mid, thrice, middle-comm, level, higher, area-above, straight-edge, not-flat}
 use Rattle.theory.proofs.Facts.{Facts, edge-in}
 use Rattle.theory.proofs.Halves.{Side, half}
 use Rattle.theory.proofs.Insides.{outside, half-inside, doubled, across-doubled, across-link, inside-doubled, middle-inside, halved-inside, from-outside, to-outside, middle-outside}
@@ -22,16 +22,10 @@ use Rattle.theory.proofs.Plane.{Inside, across-middle, touch, same-ends}
 use Rattle.theory.proofs.Separated.{Separated, parted-out, separated-sym}
 
 -- ---- in one triangle: a corner is at an end of edge k, as high as it, or opposite
-pub low-or-high : (t : Triangle) (k j : Corner) → ((across (direction (edge t k)) (corner t j) ≡ across (direction (edge t k)) (corner t k)) × ((j ≡ k) ⊎ (j ≡ next k))) ⊎ (j ≡ prev k)
-low-or-high t A A = inl (refl, inl refl)
-low-or-high t A B = inl (level t A, inr refl)
-low-or-high t A C = inr refl
-low-or-high t B A = inr refl
-low-or-high t B B = inl (refl, inl refl)
-low-or-high t B C = inl (level t B, inr refl)
-low-or-high t C A = inl (level t C, inr refl)
-low-or-high t C B = inr refl
-low-or-high t C C = inl (refl, inl refl)
+low-or-high : (t : Triangle) (k j : Corner) → ((across (direction (edge t k)) (corner t j) ≡ across (direction (edge t k)) (corner t k)) × ((j ≡ k) ⊎ (j ≡ next k))) ⊎ (j ≡ prev k)
+low-or-high t =
+    near (λ k j. ((across (direction (edge t k)) (corner t j) ≡ across (direction (edge t k)) (corner t k)) × ((j ≡ k) ⊎ (j ≡ next k))) ⊎ (j ≡ prev k))
+    (λ k. inl (refl, inl refl)) (λ k. inl (level t k, inr refl)) (λ k. inr refl)
 
 -- a middle inside an edge is that edge's own
 own-middle : (t : Triangle) → proper t ≡ true → (i j : Corner) → Inside (doubled (edge t i)) (mid t j) → j ≡ i
@@ -110,16 +104,8 @@ own-link t ok k i j at =
     one-low l (inr e) is = from-outside _ x (is ∙ ap (λ n. middle (corner t (prev k)) (corner t n)) e ∙ middle-comm (corner t (prev k)) (corner t (next k))) at′
 
 -- two corners are one, or neighbours
-pub neighbours : (i j : Corner) → (j ≡ i) ⊎ ((j ≡ next i) ⊎ (i ≡ next j))
-neighbours A A = inl refl
-neighbours A B = inr (inl refl)
-neighbours A C = inr (inr refl)
-neighbours B A = inr (inr refl)
-neighbours B B = inl refl
-neighbours B C = inr (inl refl)
-neighbours C A = inr (inl refl)
-neighbours C B = inr (inr refl)
-neighbours C C = inl refl
+neighbours : (i j : Corner) → (j ≡ i) ⊎ ((j ≡ next i) ⊎ (i ≡ next j))
+neighbours = near (λ i j. (j ≡ i) ⊎ ((j ≡ next i) ⊎ (i ≡ next j))) (λ i. inl refl) (λ i. inr (inl refl)) (λ i. inr (inr (sym (thrice i))))
 
 -- a sum of two corners is a corner doubled, or a middle; and values, summed in the same way, are those there
 pub record SameSum (u : Values) (t : Triangle) (i j : Corner) (k l : Corner) : Type 0 where

@@ -13,7 +13,7 @@ use Rattle.std.proofs.shelf.Tests.{both-ways, or-left, or-right}
 use Rattle.exact.proofs.Certificates.{_≼_, hyp, lit, _⊞_, _⊠_, prove≤}
 use Rattle.exact.proofs.Members.{any-in, member-map}
 use Rattle.exact.proofs.Mixes.{mixed, mix-above}
-use Rattle.exact.proofs.Order.{one-more, below}
+use Rattle.exact.proofs.Order.{one-more, below, product-above}
 use Rattle.exact.proofs.Ring.{var, con, _⊕_, _⊗_, _⊝_}
 use Rattle.rules.specs.declared.Point.{Point}
 use Rattle.rules.specs.declared.Triangle.{Triangle}
@@ -26,7 +26,6 @@ use Rattle.theory.proofs.Blends.{two-rows, three-rows}
 use Rattle.theory.proofs.Corners.{prev, thrice, area-above}
 use Rattle.theory.proofs.Facts.{edge-among}
 use Rattle.theory.proofs.Parted.{rise}
-use Rattle.theory.proofs.Plane.{product-above}
 use Rattle.theory.proofs.Separated.{before-in}
 use Rattle.theory.proofs.Spots.{Spot, spot, mix, height, height-mix, height-sum, at-top, own-height, Within, corner-within, mix-within, mixed-height, centre, centre-height, seen}
 use Rattle.theory.proofs.Threes.{each, highest, some-above, sum}

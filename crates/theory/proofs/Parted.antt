@@ -9,7 +9,7 @@ use lib.IntN.{ℤ, pos, negℤ, _-ℤ_, _*ℤ_}
 use lib.Signed.{_≤ℤ_, _<ℤ_}
 use Rattle.std.proofs.shelf.Signed.{by-ltZ}
 use Rattle.exact.proofs.Certificates.{_≼_, hyp, lit, _⊞_, _⊠_, prove≤}
-use Rattle.exact.proofs.Order.{never, one-more}
+use Rattle.exact.proofs.Order.{never, one-more, above-difference, least-difference}
 use Rattle.exact.proofs.Ring.{Expr, var, con, _⊕_, _⊗_, _⊝_, ⊖_, solve}
 use Rattle.rules.specs.declared.Point.{Point}
 use Rattle.rules.specs.declared.Triangle.{Triangle}
@@ -46,19 +46,13 @@ unfolding rise
 inner-below d t N z m straight ok inner most =
     by-ltZ (across d z) (pos N *ℤ m) (λ less. less) (λ more.
     let x : Corner → ℤ = λ i. m -ℤ across d (corner t (prev i)) in
-    let up : (i : Corner) → pos 0 <ℤ rise t i (pos N) z = λ i. above (inner i) in
+    let up : (i : Corner) → pos 0 <ℤ rise t i (pos N) z = λ i. above-difference (inner i) in
     let none : (i : Corner) → x i ≡ pos 0 =
-    noughts (λ i. rise t i (pos N) z) x up (λ i. least (most (prev i)))
+    noughts (λ i. rise t i (pos N) z) x up (λ i. least-difference (most (prev i)))
     (subst (λ s. s ≤ℤ pos 0) (sym (mean d t (pos N) m z)) (product (area2 t) (pos N *ℤ m) (across d z) (area-above t ok) more)) in
     let a = none B in let b = none C in let c = none A in
     absurd (not-flat d t A straight ok (omega (arith, ints)) (omega (arith, ints))))
   where
-    above : {a b : ℤ} → a <ℤ b → pos 0 <ℤ (b -ℤ a)
-    above {a} {b} h = omega (arith, ints)
-
-    least : {a b : ℤ} → a ≤ℤ b → pos 0 ≤ℤ (b -ℤ a)
-    least {a} {b} h = omega (arith, ints)
-
     product : (a b c : ℤ) → pos 0 <ℤ a → b ≤ℤ c → (a *ℤ (b -ℤ c)) ≤ℤ pos 0
     product a b c ha h =
         prove≤ (a ∷ b ∷ c ∷ []) ((con (pos 1) ≼ var 0) ∷ (var 1 ≼ var 2) ∷ []) ((hyp 0 ⊞ lit 1) ⊠ hyp 1) (var 0 ⊗ (var 1 ⊝ var 2)) (con (pos 0)) tt (one-more ha, (h, tt))

@@ -5,11 +5,12 @@ use mathlib.Core.List.{List, [], _∷_}
 use Prim.Native.Nat.{ℕ}
 use native.Mathlib.Omega.{arith}
 use borrow.Author.Differences.{ints}
-use lib.IntN.{ℤ, pos, negℤ, _+ℤ_, _-ℤ_, _*ℤ_, *ℤ-zero, *ℤ-comm}
+use lib.IntN.{ℤ, pos, negℤ, _+ℤ_, _-ℤ_, _*ℤ_}
 use lib.Signed.{_≤ℤ_, _<ℤ_}
 use Rattle.std.proofs.shelf.Signed.{by-ltZ}
-use Rattle.exact.proofs.Certificates.{_≼_, _≈_, hyp, off, _⊞_, _⊠_, prove≤, prove≡}
-use Rattle.exact.proofs.Order.{never, one-more, below, ≤ℤ-of-≡, *ℤ-cancel-≤ℤ}
+use Rattle.exact.proofs.Certificates.{_≈_, prove≡}
+use Rattle.exact.proofs.Integers.{equal-from-difference}
+use Rattle.exact.proofs.Order.{above-difference, least-difference, factor-out, one-sign, product-above, nought}
 use Rattle.exact.proofs.Ring.{Expr, var, con, _⊕_, _⊗_, _⊝_, ⊖_, solve}
 use Rattle.rules.specs.declared.Point.{Point}
 use Rattle.rules.specs.declared.Edge.{Edge}
@@ -87,19 +88,6 @@ straight-opposite d straight =
     let both = solve (d .x ∷ d .y ∷ []) (((⊖ var 0) ⊗ (⊖ var 0)) ⊕ ((⊖ var 1) ⊗ (⊖ var 1))) ((var 0 ⊗ var 0) ⊕ (var 1 ⊗ var 1)) tt in
     omega (arith, ints)
 
--- ---- numbers with positive weights
-weights : (a b x y : ℤ) → pos 0 <ℤ a → pos 0 <ℤ b → pos 0 ≤ℤ x → pos 0 ≤ℤ y → (a *ℤ x) +ℤ (b *ℤ y) ≡ pos 0 → x ≡ pos 0
-weights a b x y ha hb hx hy sum =
-    by-ltZ (pos 0) x
-    (λ above. absurd (never (prove≤ (a ∷ b ∷ x ∷ y ∷ [])
-    ((con (pos 1) ≼ var 0) ∷ (con (pos 0) ≼ var 1) ∷ (con (pos 1) ≼ var 2) ∷ (con (pos 0) ≼ var 3) ∷ (((var 0 ⊗ var 2) ⊕ (var 1 ⊗ var 3)) ≈ con (pos 0)) ∷ [])
-    ((hyp 0 ⊠ hyp 2) ⊞ hyp 0 ⊞ hyp 2 ⊞ (hyp 1 ⊠ hyp 3) ⊞ off 4 (con (pos 1))) (con (pos 1)) (con (pos 0)) tt
-    (one-more ha, (omega (arith, ints), (one-more above, (hy, (sum, tt))))))))
-    (λ most. omega (arith, ints))
-
-swapped : (a b x y : ℤ) → (a *ℤ x) +ℤ (b *ℤ y) ≡ pos 0 → (b *ℤ y) +ℤ (a *ℤ x) ≡ pos 0
-swapped a b x y e = omega (arith, ints)
-
 -- a point inside an edge whose ends lie on one side of it lies at the height of both ends
 touch-sum : (d : Vector) (p q x : Point) → let e = vector p q in
     ((along e x -ℤ along e p) *ℤ (across d x -ℤ across d q)) +ℤ ((along e q -ℤ along e x) *ℤ (across d x -ℤ across d p)) ≡
@@ -121,29 +109,18 @@ touch d e x at h k =
     let b = along f (e .to) -ℤ along f x in
     let y = across d x -ℤ across d (e .to) in
     let z = across d x -ℤ across d (e .from) in
-    let ha : pos 0 <ℤ a = positive (along f (e .from)) (along f x) (at .past) in
-    let hb : pos 0 <ℤ b = positive (along f x) (along f (e .to)) (at .short) in
-    let hy : pos 0 ≤ℤ y = not-negative (across d (e .to)) (across d x) k in
-    let hz : pos 0 ≤ℤ z = not-negative (across d (e .from)) (across d x) h in
+    let ha : pos 0 <ℤ a = above-difference (at .past) in
+    let hb : pos 0 <ℤ b = above-difference (at .short) in
+    let hy : pos 0 ≤ℤ y = least-difference k in
+    let hz : pos 0 ≤ℤ z = least-difference h in
+    let one : pos 0 <ℤ pos 1 = omega (arith, ints) in
+    let zero : pos 0 ≤ℤ pos 0 = omega (arith, ints) in
     let sum : (a *ℤ y) +ℤ (b *ℤ z) ≡ pos 0 = touch-sum d (e .from) (e .to) x ∙ nothing-times (across f x) (across f (e .from)) ((d .x *ℤ f .x) +ℤ (d .y *ℤ f .y)) (at .on) in
-    (equal (across d (e .from)) (across d x) (weights b a z y hb ha hz hy (swapped a b y z sum)), equal (across d (e .to)) (across d x) (weights a b y z ha hb hy hz sum))
-  where
-    positive : (m n : ℤ) → m <ℤ n → pos 0 <ℤ (n -ℤ m)
-    positive m n h = omega (arith, ints)
-
-    not-negative : (m n : ℤ) → m ≤ℤ n → pos 0 ≤ℤ (n -ℤ m)
-    not-negative m n h = omega (arith, ints)
-
-    equal : (m n : ℤ) → n -ℤ m ≡ pos 0 → m ≡ n
-    equal m n h = omega (arith, ints)
+    let from = nought b a (pos 1) z y (pos 0) hb ha one hz hy zero (omega (arith, ints)) in
+    let to = nought a b (pos 1) y z (pos 0) ha hb one hy hz zero (omega (arith, ints)) in
+    (sym (equal-from-difference (across d x) (across d (e .from)) from), sym (equal-from-difference (across d x) (across d (e .to)) to))
 
 -- ---- two points as far across and as far along are one
-pub factor-out : (n a : ℤ) → pos 0 <ℤ n → n *ℤ a ≡ pos 0 → a ≡ pos 0
-factor-out n a above e =
-    let less : a ≤ℤ pos 0 = *ℤ-cancel-≤ℤ n (one-more above) (≤ℤ-of-≡ (e ∙ sym (*ℤ-zero n))) in
-    let more : pos 0 ≤ℤ a = *ℤ-cancel-≤ℤ n (one-more above) (≤ℤ-of-≡ (*ℤ-zero n ∙ sym e)) in
-    omega (arith, ints)
-
 pub one-point : (d : Vector) (p q : Point) → Straight d → across d p ≡ across d q → along d p ≡ along d q → p ≡ q
 unfolding across along
 one-point d p q straight h k =
@@ -153,32 +130,11 @@ one-point d p q straight h k =
     let n = squared d in
     let x = factor-out n (p .x -ℤ q .x) straight (prove≡ ρ known ((⊖ (D .y)) ∷ D .x ∷ []) (N ⊗ (P .x ⊝ Q .x)) (con (pos 0)) tt (h, (k, tt))) in
     let y = factor-out n (p .y -ℤ q .y) straight (prove≡ ρ known (D .x ∷ D .y ∷ []) (N ⊗ (P .y ⊝ Q .y)) (con (pos 0)) tt (h, (k, tt))) in
-    λ i. record { x = equal (p .x) (q .x) x i; y = equal (p .y) (q .y) y i }
-  where
-    equal : (m n : ℤ) → m -ℤ n ≡ pos 0 → m ≡ n
-    equal m n h = omega (arith, ints)
+    λ i. record { x = equal-from-difference (p .x) (q .x) x i; y = equal-from-difference (p .y) (q .y) y i }
 
 -- ---- on a line across which all is equal: c strictly between a and b, either way round
 abbrev pub Amid : ℤ → ℤ → ℤ → Type 0
 Amid a b c = ((a <ℤ c) × (c <ℤ b)) ⊎ ((b <ℤ c) × (c <ℤ a))
-
--- a product above 0 has factors of one sign
-not-across : (a b : ℤ) → pos 0 <ℤ (a *ℤ b) → pos 0 ≤ℤ a → b ≤ℤ pos 0 → ⊥
-not-across a b h ha hb =
-    never (prove≤ (a ∷ b ∷ []) ((con (pos 1) ≼ (var 0 ⊗ var 1)) ∷ (con (pos 0) ≼ var 0) ∷ (var 1 ≼ con (pos 0)) ∷ []) (hyp 0 ⊞ (hyp 1 ⊠ hyp 2)) (con (pos 1)) (con (pos 0)) tt
-    (one-more h, (ha, (hb, tt))))
-
-one-sign : (a b : ℤ) → pos 0 <ℤ (a *ℤ b) → ((pos 0 <ℤ a) × (pos 0 <ℤ b)) ⊎ ((a <ℤ pos 0) × (b <ℤ pos 0))
-one-sign a b h =
-    by-ltZ (pos 0) a
-    (λ ha. by-ltZ (pos 0) b (λ hb. inl (ha, hb)) (λ hb. absurd (not-across a b h (omega (arith, ints)) hb)))
-    (λ ha. by-ltZ b (pos 0)
-    (λ hb. by-ltZ a (pos 0) (λ ha′. inr (ha′, hb)) (λ ha′. absurd (not-across a b h ha′ (omega (arith, ints)))))
-    (λ hb. absurd (not-across b a (subst (λ n. pos 0 <ℤ n) (*ℤ-comm a b) h) hb ha)))
-
-pub product-above : (a b : ℤ) → pos 0 <ℤ a → pos 0 <ℤ b → pos 0 <ℤ (a *ℤ b)
-product-above a b ha hb =
-    below (prove≤ (a ∷ b ∷ []) ((con (pos 1) ≼ var 0) ∷ (con (pos 1) ≼ var 1) ∷ []) ((hyp 0 ⊠ hyp 1) ⊞ hyp 0 ⊞ hyp 1) (con (pos 1)) (var 0 ⊗ var 1) tt (one-more ha, (one-more hb, tt)))
 
 amid-products : (a b c : ℤ) → pos 0 <ℤ ((b -ℤ a) *ℤ (c -ℤ a)) → pos 0 <ℤ ((b -ℤ a) *ℤ (b -ℤ c)) → Amid a b c
 amid-products a b c h k =

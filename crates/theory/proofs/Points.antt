@@ -1,8 +1,8 @@
 -- The points of a plate in their order: each corner is one of them, and values in a row are found at them. Assumes nothing.
 use mathlib.Core.Path.{_≡_, refl, sym, ap, subst, _∙_}
 use mathlib.Core.Bool.{true, false, cond, not}
-use mathlib.Core.Logic.{⊎-elim}
-use mathlib.Core.List.{List, [], _∷_, _++_, map, List·Memᴰ, List·Memᴰ·head, List·Memᴰ·tail, Memᴰ·append-left, Memᴰ·append-right}
+use mathlib.Core.Logic.{_⊎_, inl, inr, ⊎-elim}
+use mathlib.Core.List.{List, [], _∷_, _++_, map, List·Memᴰ, List·Memᴰ·head, List·Memᴰ·tail, List·Memᴰ·not-nil, List·Memᴰ·append-cases, List·Memᴰ·eq-of-singleton, Memᴰ·append-left, Memᴰ·append-right}
 use Prim.Native.Nat.{suc, _+_}
 use native.Mathlib.Omega.{arith}
 use lib.IntN.{pos}
@@ -12,7 +12,8 @@ use Rattle.std.proofs.shelf.Tests.{cases-bool, both-ways, cond-both, lt-ltb, lt
 use Rattle.rules.specs.declared.Point.{Point}
 use Rattle.rules.specs.declared.Triangle.{Triangle}
 use Rattle.rules.specs.Edges.{Corner, A, B, C, corner}
-use Rattle.rules.specs.Plates.{Values, samePoint, placeOf, among, noted, cornersNoted, valuesAt}
+use Rattle.rules.specs.Laws.{PointsAreCorners}
+use Rattle.rules.specs.Plates.{Values, samePoint, placeOf, among, noted, cornersNoted, pointsOf, valuesAt}
 use Rattle.theory.proofs.Sameness.{point-is, samePoint-from}
 
 -- ---- values in the order of the points
@@ -81,3 +82,26 @@ pub among-in : (p : Point) (ps : List Point) → List·Memᴰ p ps → among p p
 among-in p [] n = elim n [ ]
 among-in p (q ∷ ps) (List·Memᴰ·head e) = first-among p q ps (samePoint-from p q e)
 among-in p (q ∷ ps) (List·Memᴰ·tail n) = ⊎-elim (first-among p q ps) (λ t. later-among p q ps t (among-in p ps n)) (cases-bool (samePoint p q))
+
+-- ---- and each point is a corner
+abbrev CornerOf : Point → List Triangle → Type 0
+CornerOf p ts = (t : Triangle) × (i : Corner) × List·Memᴰ t ts × (p ≡ corner t i)
+
+noted-out : (p q : Point) (ps : List Point) → List·Memᴰ p (noted ps q) → List·Memᴰ p ps ⊎ (p ≡ q)
+unfolding noted
+noted-out p q ps = cond-both (among q ps) ps (ps ++ q ∷ []) (λ qs. List·Memᴰ p qs → List·Memᴰ p ps ⊎ (p ≡ q)) (λ t n. inl n) (λ f n. ⊎-elim inl (λ m. inr (List·Memᴰ·eq-of-singleton m)) (List·Memᴰ·append-cases ps n))
+
+corners-out : (p : Point) (ps : List Point) (t : Triangle) → List·Memᴰ p (cornersNoted ps t) → List·Memᴰ p ps ⊎ ((i : Corner) × (p ≡ corner t i))
+corners-out p ps t n =
+    ⊎-elim (λ b. ⊎-elim (λ a. ⊎-elim inl (λ e. inr (A, e)) (noted-out p (t .a) ps a)) (λ e. inr (B, e)) (noted-out p (t .b) _ b)) (λ e. inr (C, e)) (noted-out p (t .c) _ n)
+
+points-out : (p : Point) (ps : List Point) (ts : List Triangle) → List·Memᴰ p (folded cornersNoted ps ts) → List·Memᴰ p ps ⊎ CornerOf p ts
+points-out p ps [] n = inl n
+points-out p ps (t ∷ ts) n =
+    ⊎-elim (λ m. ⊎-elim inl (λ c. inr (t, c .0, List·Memᴰ·head refl, c .1)) (corners-out p ps t m)) (λ c. inr (c .0, c .1, List·Memᴰ·tail (c .2), c .3)) (points-out p (cornersNoted ps t) ts n)
+
+pub points-are-corners : PointsAreCorners
+points-are-corners m = (out, λ t i n. among-in (corner t i) (pointsOf (m .triangles)) (corner-listed [] (m .triangles) t i n))
+  where
+    out : (p : Point) → among p (pointsOf (m .triangles)) ≡ true → CornerOf p (m .triangles)
+    out p h = ⊎-elim (λ n. absurd (List·Memᴰ·not-nil n)) (λ c. c) (points-out p [] (m .triangles) (among-out p (pointsOf (m .triangles)) h))

@@ -13,10 +13,10 @@ use Rattle.rules.specs.declared.Triangle.{Triangle}
 use Rattle.rules.specs.declared.Vector.{Vector}
 use Rattle.rules.specs.Edges.{Corner, next, corner, edge, direction, vector, across}
 use Rattle.rules.specs.Triangles.{area2, proper}
-use Rattle.theory.proofs.Corners.{Area, prev, level, higher, area-above}
+use Rattle.theory.proofs.Corners.{Area, prev, level, higher, none-below}
 use Rattle.theory.proofs.Parted.{rise, Rise}
 use Rattle.theory.proofs.Plane.{Pair, pair, Across, To}
-use Rattle.theory.proofs.Threes.{near, sum, sum-from}
+use Rattle.theory.proofs.Threes.{sum, sum-from}
 
 -- a point, and how many times as fine its coordinates are
 pub record Spot : Type 0 where
@@ -64,9 +64,8 @@ unfolding rise
 at-top t i = let e = higher t i in omega (arith, ints)
 
 pub own-height : (t : Triangle) → proper t ≡ true → (i j : Corner) → pos 0 ≤ℤ height t i (spot (corner t j))
-own-height t ok =
-    near (λ i j. pos 0 ≤ℤ height t i (spot (corner t j)))
-    (λ i. let e = at-start t i in omega (arith, ints)) (λ i. let e = at-end t i in omega (arith, ints)) (λ i. let e = at-top t i in let up = area-above t ok in omega (arith, ints))
+unfolding rise
+own-height t ok i j = let e = none-below t ok i j in omega (arith, ints)
 
 -- ---- in a triangle or on its border
 pub record Within (t : Triangle) (h : Spot) : Type 0 where

@@ -1,5 +1,5 @@
 //! The theorems, each named in the contract of a function, so that a check asks for its proof.
-ghost use Rattle.rules.specs.Laws.{Cross, Squares, LocalLaw, PartsAlike, RoundedUp, ValuesListed, PointsListed};
+ghost use Rattle.rules.specs.Laws.{Cross, Squares, LocalLaw, PartsAlike, RoundedUp, ValuesListed, PointsListed, PointsAreCorners};
 ghost use Rattle.rules.specs.Promises.{Below, DenominatorsAbove, FinerLawful, CarriedThere, FieldsCarried, StreamsCarried, HoweverFine, Printed, Between, PrintedCarried, Bracketed, PartedMeans, NotPartedMeans, GroupsJoined, GroupsKept, GroupsAlike};
 ghost use Rattle.rules.specs.Calls.{ReadAsWritten, AnswersBracket, FinerTaken, CarriedTaken, CarriedFourTimes};
 ghost use Rattle.rules.specs.Table.{TableHolds};
@@ -27,10 +27,11 @@ pub fn rounding_is_safe() -> u8
     0
 }
 
-/// Values in a row belong to the points in their order, of which no two are the same.
+/// Values in a row belong to the points in their order; no two of these are the same, and they are just the corners of the triangles.
 pub fn values_are_listed() -> u8
     ensures listed { λ _. ⌜ ValuesListed ⌝ }
     ensures points { λ _. ⌜ PointsListed ⌝ }
+    ensures corners { λ _. ⌜ PointsAreCorners ⌝ }
 {
     0
 }
