@@ -1,4 +1,6 @@
 //! Prints the two numbers of a plate, a field and a stream that are built in.
+#![tactic(auto)]
+
 use energy::numbers::{Bracket, bounds};
 use rules::Point;
 use std::io;

@@ -1,4 +1,5 @@
 //! Examples with known answers, run through the public functions.
+#![tactic(auto)]
 
 #[cfg(test)]
 mod tests {

@@ -1,4 +1,5 @@
 //! What a field spends and a stream says, and the two numbers.
+#![tactic(auto)]
 
 mod ends;
 pub mod numbers;

@@ -1,4 +1,5 @@
 //! Exact arithmetic on machine numbers: quotients rounded up, numbers kept below a cap, signed products.
+#![tactic(auto)]
 
 ghost use Rattle.std.specs.Prelude.{◌≡◌, ℕ, ◌+◌, ◌*◌, ◌^◌, ◌<◌, ◌≤◌, ◌*ℤ◌, unsigned_abs};
 ghost use Rattle.exact.specs.Capped.{capped};

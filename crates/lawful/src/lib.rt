@@ -1,4 +1,5 @@
 //! The check of a plate.
+#![tactic(auto)]
 
 pub mod check;
 pub mod numbering;

@@ -1,4 +1,5 @@
 //! How two triangles meet, and which of its corners and edges a triangle has.
+#![tactic(auto)]
 
 mod across;
 mod apart;

@@ -1,4 +1,5 @@
 //! Plates as lent numbers.
+#![tactic(auto)]
 
 mod reads;
 pub mod view;

@@ -11,7 +11,6 @@ pub struct View<'a> {
     /// how many outline edges
     pub edges: usize,
     ghost sized: { length numbers.now ≡ 2 + 7 * (triangles + edges) },
-    ghost few_triangles: { triangles ≤ 65536 },
     ghost few: { edges ≤ 65536 },
     ghost triangles_counted: { triangles ≡ triangle_count numbers.now },
     ghost edges_counted: { edges ≡ outline_count numbers.now },

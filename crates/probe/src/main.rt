@@ -1,4 +1,6 @@
 //! timing
+#![tactic(auto)]
+
 use lawful::check::is_lawful;
 use plate::view::View;
 use rules::Point;

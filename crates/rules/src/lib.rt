@@ -1,4 +1,5 @@
 //! What the definitions speak of, and the limits.
+#![tactic(auto)]
 
 /// A plate has at most so many triangles, and at most so many outline edges.
 pub const MAX_COUNT: i64 = 65536;

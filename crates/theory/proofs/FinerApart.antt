@@ -140,9 +140,9 @@ directions_kept p q s t d (Memᴰ.tail (Memᴰ.tail n)) = ⊎_elim (of p s (left
         kept_through d (map direction (edges_in (part o r))) (directions (part p s) (part q t)) into
         (subst (λ c. Kept c (map direction (edges_in (part o r)))) (sym (at.2 ∙ ap direction which.1)) (kept_in o r which.0))
 
-one_side : (s t : Triangle) (d : Vector) → Sides d s t ⊎ Sides d t s → one_side s t d ≡ true
-one_side s t d (inl h) = or_left (before d s t) (before d t s) (before_in d s t h)
-one_side s t d (inr h) = or_right (before d s t) (before d t s) (before_in d t s h)
+one_side_lem : (s t : Triangle) (d : Vector) → Sides d s t ⊎ Sides d t s → one_side s t d ≡ true
+one_side_lem s t d (inl h) = or_left (before d s t) (before d t s) (before_in d s t h)
+one_side_lem s t d (inr h) = or_right (before d s t) (before d t s) (before_in d t s h)
 
 -- a direction that has s on the one side and t on the other parts them, in whichever sense it is tried
 parted_by_lem : (s t : Triangle) (d : Vector) → Kept d (directions s t) → Sides d s t ⊎ Sides d t s → parted s t ≡ true

@@ -1,4 +1,6 @@
 //! The theorems, each named in the contract of a function, so that a check asks for its proof.
+#![tactic(auto)]
+
 ghost use Rattle.rules.specs.Laws.{Cross, Squares, LocalLaw, PartsAlike, RoundedUp, ValuesListed, PointsListed, PointsAreCorners};
 ghost use Rattle.rules.specs.Promises.{Below, DenominatorsAbove, FinerLawful, CarriedThere, FieldsCarried, StreamsCarried, HoweverFine, Printed, Between, PrintedCarried, Bracketed, PartedMeans, NotPartedMeans, GroupsJoined, GroupsKept, GroupsAlike};
 ghost use Rattle.rules.specs.Calls.{ReadAsWritten, AnswersBracket, FinerTaken, CarriedTaken, CarriedFourTimes};

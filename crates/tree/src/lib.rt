@@ -1,4 +1,5 @@
 //! A search for triangles near a place: a binary tree of extents over the triangles of a plate.
+#![tactic(auto)]
 
 mod curve;
 pub mod extent;

@@ -1,4 +1,5 @@
 //! One triangle: its area, the gradient of values over it, and what they spend and drag there.
+#![tactic(auto)]
 
 pub mod geometry;
 mod gradient;

@@ -3,8 +3,8 @@ use Rattle.std.proofs.Common.{rules}
 use Rattle.exact.proofs.Products.{product_fits}
 use Rattle.exact.proofs.product.Goals as goal
 
-pub overflow-mul-result : goal.overflow-mul-result
-overflow-mul-result c = search (rules, product_fits)
+pub overflow_mul-result : goal.overflow_mul-result
+overflow_mul-result c = search (rules, product_fits)
 
 pub returns : goal.returns
 returns c = search (rules, product_fits)

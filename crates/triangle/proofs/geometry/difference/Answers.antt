@@ -5,6 +5,6 @@ use Rattle.triangle.proofs.geometry.difference.Goals as goal
 
 pub returns : goal.returns
 returns c =
-    let from = near_point_lem c.args.from.now c.requires.near-from in
-    let to = near_point_lem c.args.to.now c.requires.near-to in
+    let from = near_point_lem c.args.from.now c.requires.near_from in
+    let to = near_point_lem c.args.to.now c.requires.near_to in
     omega (arith, ints)

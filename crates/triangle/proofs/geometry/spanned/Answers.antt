@@ -9,10 +9,10 @@ all : (c : goal.After-product-2) →
 all c =
     let v = c.args.v.now in
     let w = c.args.w.now in
-    let vx = operand v.x (2 ^ 16) (search rules) c.requires.short-v.0 in
-    let vy = operand v.y (2 ^ 16) (search rules) c.requires.short-v.1 in
-    let wx = operand w.x (2 ^ 16) (search rules) c.requires.short-w.0 in
-    let wy = operand w.y (2 ^ 16) (search rules) c.requires.short-w.1 in
+    let vx = operand v.x (2 ^ 16) (search rules) c.requires.short_v.0 in
+    let vy = operand v.y (2 ^ 16) (search rules) c.requires.short_v.1 in
+    let wx = operand w.x (2 ^ 16) (search rules) c.requires.short_w.0 in
+    let wy = operand w.y (2 ^ 16) (search rules) c.requires.short_w.1 in
     difference (product vx wy c.product.result c.product.ensures (lit< tt)).read (product wx vy c.product-2.result c.product-2.ensures (lit< tt)).read (lit< tt)
 
 pub overflow-sub-result : goal.overflow-sub-result

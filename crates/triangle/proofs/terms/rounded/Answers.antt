@@ -21,16 +21,16 @@ returns-in-err-square c =
 
 pub quotient-requires : goal.quotient-requires
 quotient-requires c =
-    let area = c.in-ok-area.ensures in
-    let square = c.in-ok-square.ensures in
-    let t = modest_parts c.args.t.now (and_parts (modest c.args.t.now) (near_corners c.args.u.now) (sym c.if-not-are-within.ensures)).0 in
+    let area = c.in_ok-area.ensures in
+    let square = c.in_ok-square.ensures in
+    let t = modest_parts c.args.t.now (and_parts (modest c.args.t.now) (near_corners c.args.u.now) (sym c.if-not-are_within.ensures)).0 in
     record { k-above = area.2.2; k-below = t.k; area_above = area.2.0; area-below = area.2.1; square-below = square.2 }
 
 pub returns : goal.returns
 returns c =
-    let area = c.in-ok-area.ensures in
-    let square = c.in-ok-square.ensures in
-    rw (reached c.args.t.now c.args.u.now c.turned-gradient.result c.turned-gradient.ensures c.if-not-are-within.ensures area.0 square.0)
+    let area = c.in_ok-area.ensures in
+    let square = c.in_ok-square.ensures in
+    rw (reached c.args.t.now c.args.u.now c.turned_gradient.result c.turned_gradient.ensures c.if-not-are-within.ensures area.0 square.0)
     (c.quotient.ensures
-    ∙ ap₂ (λ d n. capped (quotient_of c.args.kind c.args.t.now.k d n)) area.1 (square.1 ∙ ap norm c.turned-gradient.ensures)
+    ∙ ap₂ (λ d n. capped (quotient_of c.args.kind c.args.t.now.k d n)) area.1 (square.1 ∙ ap norm c.turned_gradient.ensures)
     ∙ ap capped (quotient_is c.args.kind c.args.t.now c.args.u.now))
