@@ -147,9 +147,9 @@ one_side_lem s t d (inr h) = or_right (before d s t) (before d t s) (before_in d
 -- a direction that has s on the one side and t on the other parts them, in whichever sense it is tried
 parted_by_lem : (s t : Triangle) (d : Vector) → Kept d (directions s t) → Sides d s t ⊎ Sides d t s → parted s t ≡ true
 unfolding parted
-parted_by_lem s t d (inl n) h = any_in (one_side s t) (directions s t) d n (one_side s t d h)
+parted_by_lem s t d (inl n) h = any_in (one_side s t) (directions s t) d n (one_side_lem s t d h)
 parted_by_lem s t d (inr n) h =
-    any_in (one_side s t) (directions s t) (opposite d) n (one_side s t (opposite d) (⊎_elim (λ k. inr (sides_opposite d s t k)) (λ k. inl (sides_opposite d t s k)) h))
+    any_in (one_side s t) (directions s t) (opposite d) n (one_side_lem s t (opposite d) (⊎_elim (λ k. inr (sides_opposite d s t k)) (λ k. inl (sides_opposite d t s k)) h))
 
 pub parts_parted : (p q : Part) (s t : Triangle) → parted s t ≡ true → parted (part p s) (part q t) ≡ true
 unfolding parted

@@ -17,11 +17,11 @@ temperatures g h f k e = let both = ends g h f k e in sum both.0 both.1 (lit< tt
 step : (p q : ℤ) → SFits w64 p → SFits w64 q → (near (2 ^ 20) p && near (2 ^ 20) q) ≡ true → Result (back q -ℤ back p) (q -ℤ p) (2 ^ 21)
 step p q f k e = let both = ends p q f k e in difference both.1 both.0 (lit< tt)
 
-pub overflow-add-held : goal.overflow-add-held
-overflow-add-held c = (temperatures c.args.held.now.from c.args.held.now.to (search rules) (search rules) c.requires.held).fits
+pub overflow_add-held : goal.overflow_add-held
+overflow_add-held c = (temperatures c.args.held.now.from c.args.held.now.to (search rules) (search rules) c.requires.held).fits
 
-pub overflow-sub-stream : goal.overflow-sub-stream
-overflow-sub-stream c = (step c.args.stream.now.from c.args.stream.now.to (search rules) (search rules) c.requires.stream).fits
+pub overflow_sub-stream : goal.overflow_sub-stream
+overflow_sub-stream c = (step c.args.stream.now.from c.args.stream.now.to (search rules) (search rules) c.requires.stream).fits
 
 pub product-requires : goal.product-requires
 product-requires c =

@@ -27,19 +27,19 @@ turn s zs n i b e inv within read =
 held : {x z : ℤ} {m : ℕ} → x ≡ z → nat_abs z ≤ m → Operand x z m
 held e h = record { is = e; size = h }
 
-pub returns-in-err-sum : goal.returns-in-err-sum
-returns-in-err-sum g c =
+pub returns-in_err-sum : goal.returns-in_err-sum
+returns-in_err-sum g c =
     let at =
     turn (g.V.Values.value c.args.s.now) c.args.plate.now.numbers.now c.args.plate.now.edges c.loop-i.i c.outline.result c.loop-i.sum-is c.loop-i.invariant
     c.loop-i-test.true c.outline.ensures in
-    rw c.from-residual.ensures (out_of_reach at c.in-err-sum.ensures)
+    rw c.from_residual.ensures (out_of_reach at c.in_err-sum.ensures)
 
 pub loop-i-preserved : goal.loop-i-preserved
 loop-i-preserved g c =
     let at =
     turn (g.V.Values.value c.args.s.now) c.args.plate.now.numbers.now c.args.plate.now.edges c.loop-i.i c.outline.result c.loop-i.sum-is c.loop-i.invariant
     c.loop-i-test.true c.outline.ensures in
-    let z = c.in-ok-sum.ensures in
+    let z = c.in_ok-sum.ensures in
     let few : c.args.plate.now.edges ≤ 65536 = search rules in
-    let e = (sum (held c.loop-i.sum-is at.size) (operand c.in-ok-sum.field-0 (2 ^ 42) (search rules) z.2) (omega arith)).read.is in
-    one_more at c.in-ok-sum.field-0 _ e z.0 z.1 z.2
+    let e = (sum (held c.loop-i.sum-is at.size) (operand c.in_ok-sum.field-0 (2 ^ 42) (search rules) z.2) (omega arith)).read.is in
+    one_more at c.in_ok-sum.field-0 _ e z.0 z.1 z.2

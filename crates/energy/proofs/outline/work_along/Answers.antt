@@ -12,4 +12,4 @@ returns-in-Held g c =
     let e = c.in-Held.edge in
     held (g.V.Values.value c.args.s.now) c.args.b.now e c.in-Held.from c.in-Held.to (back c.in-Held.from) (back c.in-Held.to) (back c.at.result) (back c.at-in-Held.result)
     c.in-Held.is (to_z-of_z w64 _ (search rules)) (to_z-of_z w64 _ (search rules)) (to_z-of_z w64 _ (search rules) ∙ c.at.ensures) (to_z-of_z w64 _ (search rules) ∙ c.at-in-Held.ensures)
-    c.held-work-within.result c.held-work-within.ensures
+    c.held_work_within.result c.held_work_within.ensures

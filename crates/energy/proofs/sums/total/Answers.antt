@@ -28,25 +28,25 @@ abbrev At : Kind → Values → List ℤ → ℕ → ℕ → ℕ → Triangle �
 At kind u zs n sum i t =
     Turn (passes u) (term kind u) (all_in_reach u (triangles_of zs)) (sum_by (term kind u) (triangles_of zs)) sum (triangle_at zs) n i t
 
-pub returns-in-err-rounded : goal.returns-in-err-rounded
-returns-in-err-rounded g c =
+pub returns-in_err-rounded : goal.returns-in_err-rounded
+returns-in_err-rounded g c =
     let turn : At c.args.kind (g.V.Values.value c.args.u.now) c.args.plate.now.numbers.now c.args.plate.now.triangles c.loop-i.sum c.loop-i.i c.triangle-t.result =
     record { test = c.loop-i.invariant.0; total = c.loop-i.invariant.1; within = c.loop-i-test.true; read = c.triangle-t.ensures } in
-    c.from-residual.ensures ∙ term_missing turn c.rounded.result (is-term c.args.kind (g.V.Values.value c.args.u.now) c.triangle-t.result c.corners.ensures c.rounded.ensures) c.in-err-rounded.was
+    c.from_residual.ensures ∙ term_missing turn c.rounded.result (is-term c.args.kind (g.V.Values.value c.args.u.now) c.triangle-t.result c.corners.ensures c.rounded.ensures) c.in_err-rounded.was
 
-pub returns-in-err-sum : goal.returns-in-err-sum
-returns-in-err-sum g c =
+pub returns-in_err-sum : goal.returns-in_err-sum
+returns-in_err-sum g c =
     let turn : At c.args.kind (g.V.Values.value c.args.u.now) c.args.plate.now.numbers.now c.args.plate.now.triangles c.loop-i.sum c.loop-i.i c.triangle-t.result =
     record { test = c.loop-i.invariant.0; total = c.loop-i.invariant.1; within = c.loop-i-test.true; read = c.triangle-t.ensures } in
-    c.from-residual-in-err-sum.ensures
-    ∙ sum_missing turn c.rounded.result c.in-ok-rounded.field-0 (is-term c.args.kind (g.V.Values.value c.args.u.now) c.triangle-t.result c.corners.ensures c.rounded.ensures) c.in-ok-rounded.was c.capped-sum.result c.capped-sum.ensures c.in-err-sum.was
+    c.from_residual-in_err-sum.ensures
+    ∙ sum_missing turn c.rounded.result c.in_ok-rounded.field-0 (is-term c.args.kind (g.V.Values.value c.args.u.now) c.triangle-t.result c.corners.ensures c.rounded.ensures) c.in_ok-rounded.was c.capped_sum.result c.capped_sum.ensures c.in_err-sum.was
 
 pub loop-i-preserved : goal.loop-i-preserved
 loop-i-preserved g c =
     let turn : At c.args.kind (g.V.Values.value c.args.u.now) c.args.plate.now.numbers.now c.args.plate.now.triangles c.loop-i.sum c.loop-i.i c.triangle-t.result =
     record { test = c.loop-i.invariant.0; total = c.loop-i.invariant.1; within = c.loop-i-test.true; read = c.triangle-t.ensures } in
-    one_more turn c.rounded.result c.in-ok-rounded.field-0 (is-term c.args.kind (g.V.Values.value c.args.u.now) c.triangle-t.result c.corners.ensures c.rounded.ensures) c.in-ok-rounded.was c.capped-sum.result c.in-ok-sum.sum c.capped-sum.ensures
-    c.in-ok-sum.was
+    one_more turn c.rounded.result c.in_ok-rounded.field-0 (is-term c.args.kind (g.V.Values.value c.args.u.now) c.triangle-t.result c.corners.ensures c.rounded.ensures) c.in_ok-rounded.was c.capped_sum.result c.in_ok-sum.sum c.capped_sum.ensures
+    c.in_ok-sum.was
 
 pub loop-i-init : goal.loop-i-init
 loop-i-init g c =

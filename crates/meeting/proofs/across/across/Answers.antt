@@ -18,8 +18,8 @@ all c =
     let ry = operand r.y 32768 (search rules) near.1 in
     difference (product dx ry c.product.result c.product.ensures (lit< tt)).read (product dy rx c.product-2.result c.product-2.ensures (lit< tt)).read (lit< tt)
 
-pub overflow-sub-result : goal.overflow-sub-result
-overflow-sub-result c = (all c).ranges
+pub overflow_sub-result : goal.overflow_sub-result
+overflow_sub-result c = (all c).fits
 
 pub returns : goal.returns
 unfolding across

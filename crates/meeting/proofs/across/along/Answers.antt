@@ -18,8 +18,8 @@ all c =
     let ry = operand r.y 32768 (search rules) near.1 in
     sum (product dx rx c.product.result c.product.ensures (lit< tt)).read (product dy ry c.product-2.result c.product-2.ensures (lit< tt)).read (lit< tt)
 
-pub overflow-add-result : goal.overflow-add-result
-overflow-add-result c = (all c).ranges
+pub overflow_add-result : goal.overflow_add-result
+overflow_add-result c = (all c).fits
 
 pub returns : goal.returns
 unfolding along

@@ -2,10 +2,10 @@ use Rattle.std.proofs.Common.{rules}
 use Rattle.rules.specs.Lawful.{parted}
 use Rattle.meeting.proofs.apart.parted.Goals as goal
 
-pub returns-then-edge-parts : goal.returns-then-edge-parts
+pub returns-then-edge_parts : goal.returns-then-edge_parts
 unfolding parted
-returns-then-edge-parts c = search rules
+returns-then-edge_parts c = search rules
 
-pub returns-else-edge-parts : goal.returns-else-edge-parts
+pub returns-else-edge_parts : goal.returns-else-edge_parts
 unfolding parted
-returns-else-edge-parts c = search rules
+returns-else-edge_parts c = search rules

@@ -5,13 +5,13 @@ use Rattle.meeting.proofs.Near.{near_edge_lem}
 use Rattle.meeting.proofs.clear.clear_of.Goals as goal
 
 pub clear-requires : goal.clear-requires
-clear-requires c = record { ends = near_edge_lem c.args.s.now c.requires.within-s A; within = c.requires.within-t }
+clear-requires c = record { ends = near_edge_lem c.args.s.now c.requires.within_s A; within = c.requires.within_t }
 
 pub clear-requires-then-clear : goal.clear-requires-then-clear
-clear-requires-then-clear c = record { ends = near_edge_lem c.args.s.now c.requires.within-s B; within = c.requires.within-t }
+clear-requires-then-clear c = record { ends = near_edge_lem c.args.s.now c.requires.within_s B; within = c.requires.within_t }
 
 pub clear-requires-then-clear-2 : goal.clear-requires-then-clear-2
-clear-requires-then-clear-2 c = record { ends = near_edge_lem c.args.s.now c.requires.within-s C; within = c.requires.within-t }
+clear-requires-then-clear-2 c = record { ends = near_edge_lem c.args.s.now c.requires.within_s C; within = c.requires.within_t }
 
 pub returns-then-clear-2 : goal.returns-then-clear-2
 unfolding clear_of

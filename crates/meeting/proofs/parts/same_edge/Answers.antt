@@ -2,10 +2,10 @@ use Rattle.std.proofs.Common.{rules}
 use Rattle.rules.specs.Edges.{same_edge}
 use Rattle.meeting.proofs.parts.same_edge.Goals as goal
 
-pub returns-then-same-point : goal.returns-then-same-point
+pub returns-then-same_point : goal.returns-then-same_point
 unfolding same_edge
-returns-then-same-point c = search rules
+returns-then-same_point c = search rules
 
-pub returns-else-same-point : goal.returns-else-same-point
+pub returns-else-same_point : goal.returns-else-same_point
 unfolding same_edge
-returns-else-same-point c = search rules
+returns-else-same_point c = search rules

@@ -15,8 +15,8 @@ all c =
     let wy = operand w.y (2 ^ 16) (search rules) c.requires.short_w.1 in
     difference (product vx wy c.product.result c.product.ensures (lit< tt)).read (product wx vy c.product-2.result c.product-2.ensures (lit< tt)).read (lit< tt)
 
-pub overflow-sub-result : goal.overflow-sub-result
-overflow-sub-result c = (all c).ranges
+pub overflow_sub-result : goal.overflow_sub-result
+overflow_sub-result c = (all c).fits
 
 pub returns : goal.returns
 returns c = record { value = (all c).read.is; size = operand_size (all c).read }

@@ -27,11 +27,11 @@ below c =
     let size : norm c.args.v.now ≤ m * m + m * m = subst (λ z. nat_abs z ≤ m * m + m * m) (sym (norm_is c.args.v.now)) (all c).read.size in
     omega arith
 
-pub overflow-add-result : goal.overflow-add-result
-overflow-add-result c = (all c).ranges
+pub overflow_add-result : goal.overflow_add-result
+overflow_add-result c = (all c).fits
 
-pub overflow-cast-result : goal.overflow-cast-result
-overflow-cast-result c =
+pub overflow_cast-result : goal.overflow_cast-result
+overflow_cast-result c =
     let small = below c in
     subst (λ z. T (non_neg z) × Fits w64 (nat_abs z)) (sym (whole c)) (tt, record { fits = omega arith })
 

@@ -43,11 +43,11 @@ others c =
     let c' = product (operand u.c (2 ^ 20) (search rules) near.2) (operand w.c (2 ^ 16) (search rules) c.requires.short.c) c.product-3.result c.product-3.ensures (lit< tt) in
     sum b.read c'.read (lit< tt)
 
-pub overflow-add-result : goal.overflow-add-result
-overflow-add-result c = (others c).ranges
+pub overflow_add-result : goal.overflow_add-result
+overflow_add-result c = (others c).fits
 
-pub overflow-add-result-2 : goal.overflow-add-result-2
-overflow-add-result-2 c = (sum (first c).read (others c).read (lit< tt)).fits
+pub overflow_add-result-2 : goal.overflow_add-result-2
+overflow_add-result-2 c = (sum (first c).read (others c).read (lit< tt)).fits
 
 pub returns : goal.returns
 returns c = (sum (first c).read (others c).read (lit< tt)).read.is

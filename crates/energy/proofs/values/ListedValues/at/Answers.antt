@@ -5,9 +5,9 @@ use Rattle.energy.proofs.values.ListedValues.at.Goals as goal
 
 pub returns-then-i-self : goal.returns-then-i-self
 returns-then-i-self c =
-    to_z-of_z w64 _ (search rules) ∙ ap (λ i. get_or c.args.self.now.numbers.now i (pos 0)) c.place-of-i.ensures
+    to_z-of_z w64 _ (search rules) ∙ ap (λ i. get_or c.args.self.now.numbers.now i (pos 0)) c.place_of-i.ensures
 
 pub returns-else-i-self : goal.returns-else-i-self
 returns-else-i-self c =
-    sym (get_or_past c.args.self.now.numbers.now c.place-of-i.result (pos 0) c.if-i-self.false)
-    ∙ ap (λ i. get_or c.args.self.now.numbers.now i (pos 0)) c.place-of-i.ensures
+    sym (get_or_past c.args.self.now.numbers.now c.place_of-i.result (pos 0) c.if-i-self.false)
+    ∙ ap (λ i. get_or c.args.self.now.numbers.now i (pos 0)) c.place_of-i.ensures
