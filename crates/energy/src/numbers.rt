@@ -13,14 +13,14 @@ use triangle::kinds::Kind;
 
 /// The upper number of values on a plate, or `None` where it is out of reach.
 fn upper<V: Values>(plate: &View, u: &V) -> Option<u64>
-    ensures { result ≡ (if upper_in_reach (value u.now) (plate_of plate.now.numbers.now) then Some (upper_of (value u.now) (triangles_of plate.now.numbers.now)) else None) }
+    ensures { result ≡ (if upper_in_reach (V.value u.now) (plate_of plate.now.numbers.now) then Some (upper_of (V.value u.now) (triangles_of plate.now.numbers.now)) else None) }
 {
     total(Kind::Spent, plate, u)
 }
 
 /// The lower number of values on a plate, or `None` where it is out of reach.
 fn lower<V: Values>(plate: &View, s: &V) -> Option<i64>
-    ensures { result ≡ (if lower_in_reach (value s.now) (plate_of plate.now.numbers.now) then Some (lower_of (value s.now) (plate_of plate.now.numbers.now)) else None) }
+    ensures { result ≡ (if lower_in_reach (V.value s.now) (plate_of plate.now.numbers.now) then Some (lower_of (V.value s.now) (plate_of plate.now.numbers.now)) else None) }
 {
     let work = work(plate, s)?;
     let drag = total(Kind::Dragged, plate, s)?;

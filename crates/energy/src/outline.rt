@@ -42,7 +42,7 @@ fn held_work_within(held: &Ends, stream: &Ends) -> Option<i64>
 
 /// The work along one outline edge, or `None` where it is out of reach.
 fn work_along<V: Values>(b: &OutlineEdge, s: &V) -> Option<i64>
-    ensures { Given result (in_reach_along (value s.now) b.now) (work_along (value s.now) b.now) (λ z. unsigned_abs z ≤ 2 ^ 42) }
+    ensures { Given result (in_reach_along (V.value s.now) b.now) (work_along (V.value s.now) b.now) (λ z. unsigned_abs z ≤ 2 ^ 42) }
 {
     match b {
         OutlineEdge::Closed { edge: _ } => Some(0),
@@ -62,7 +62,7 @@ fn work_along<V: Values>(b: &OutlineEdge, s: &V) -> Option<i64>
 
 /// The work along the whole outline, or `None` where an edge is out of reach.
 pub fn work<V: Values>(plate: &View, s: &V) -> Option<i64>
-    ensures { Given result (every (in_reach_along (value s.now)) (outline_of plate.now.numbers.now)) (work_of (value s.now) (outline_of plate.now.numbers.now)) (λ z. unsigned_abs z ≤ 2 ^ 58) }
+    ensures { Given result (every (in_reach_along (V.value s.now)) (outline_of plate.now.numbers.now)) (work_of (V.value s.now) (outline_of plate.now.numbers.now)) (λ z. unsigned_abs z ≤ 2 ^ 58) }
 {
     let mut sum = 0;
     for i in 0..plate.edges {

@@ -14,7 +14,7 @@ use triangle::terms::rounded;
 
 /// The sum of all triangles' quotients, or `None` where a triangle is out of reach or the sum is too large.
 pub fn total<V: Values>(kind: Kind, plate: &View, u: &V) -> Option<u64>
-    ensures { result ≡ (if all_in_reach (value u.now) (triangles_of plate.now.numbers.now) then capped (sum_by (λ t. term_of kind t (corners_of (value u.now) t)) (triangles_of plate.now.numbers.now)) else None) }
+    ensures { result ≡ (if all_in_reach (V.value u.now) (triangles_of plate.now.numbers.now) then capped (sum_by (λ t. term_of kind t (corners_of (V.value u.now) t)) (triangles_of plate.now.numbers.now)) else None) }
 {
     let mut sum = 0;
     for i in 0..plate.triangles {

@@ -15,7 +15,7 @@ pub trait Values {
 
 /// The values at the corners of a triangle.
 pub(crate) fn corners<V: Values>(u: &V, t: &Triangle) -> Corners
-    ensures { result ≡ corners_of (value u.now) t.now }
+    ensures { result ≡ corners_of (V.value u.now) t.now }
 {
     Corners {
         a: u.at(&t.a),
