@@ -18,11 +18,11 @@ before_lower d s t =
     ap₂ ◌&&◌ (below s.a) (ap₂ ◌&&◌ (below s.b) (ap (λ b. b && true) (below s.c))) ∙ all (lowest (across d s.a) (heights d t)) (lowest (across d s.b) (heights d t)) (lowest (across d s.c) (heights d t))
 
 module _ (d : Vector) (s t : Triangle) (u v : Corners) (is-u : u ≡ heights d s) (is-v : v ≡ heights d t) where
-  one_side : one_side s t d ≡ (lower u v || lower v u)
-  one_side = ap₂ ◌||◌ (before_lower d s t ∙ sym (ap₂ lower is-u is-v)) (before_lower d t s ∙ sym (ap₂ lower is-v is-u))
+  one_side_lem : one_side s t d ≡ (lower u v || lower v u)
+  one_side_lem = ap₂ ◌||◌ (before_lower d s t ∙ sym (ap₂ lower is-u is-v)) (before_lower d t s ∙ sym (ap₂ lower is-v is-u))
 
   pub this_way : true ≡ lower u v → true ≡ one_side s t d
-  this_way h = sym (one_side ∙ sym (λ i. h i || lower v u))
+  this_way h = sym (one_side_lem ∙ sym (λ i. h i || lower v u))
 
   pub other_way : false ≡ lower u v → lower v u ≡ one_side s t d
-  other_way h = sym (one_side ∙ sym (λ i. h i || lower v u))
+  other_way h = sym (one_side_lem ∙ sym (λ i. h i || lower v u))
