@@ -1,5 +1,5 @@
 -- Whether a point is inside an edge, as the code comes to it; d is the edge's direction. Assumes nothing.
-use Rattle.std.proofs.Common.{◌≡◌, true, false, ◌&&◌, ℤ, sym, ap, ◌∙◌, ap₂, ⊎_elim}
+use Rattle.std.proofs.Common.{◌≡◌, false, ◌&&◌, ℤ, sym, ap, ◌∙◌, ap₂, ⊎_elim}
 use lib.Signed.{lt_z}
 use Rattle.std.proofs.lemmas.Bool.{cases_Bool}
 use Rattle.rules.specs.declared.Edge.{Edge}

@@ -1,4 +1,3 @@
-use Rattle.std.proofs.Common.{rules}
 use Rattle.rules.specs.Edges.{A, B, C}
 use Rattle.meeting.proofs.Near.{near_corner}
 use Rattle.meeting.proofs.apart.edge_parts.Goals as goal
