@@ -7,7 +7,7 @@ ghost use Rattle.meeting.specs.Heights.{heights};
 
 use exact::product;
 use rules::{Corners, Point, Triangle, Vector};
-use triangle::geometry::difference;
+use triangle::difference;
 
 /// The way from one point to another.
 pub fn way(from: &Point, to: &Point) -> Vector

@@ -1,8 +1,10 @@
 //! One triangle: its area, the gradient of values over it, and what they spend and drag there.
 #![tactic(auto)]
 
-pub mod geometry;
+mod geometry;
 mod gradient;
 pub mod kinds;
-pub mod limits;
+mod limits;
 pub mod terms;
+
+pub use geometry::difference;

@@ -4,21 +4,21 @@ ghost use Rattle.rules.specs.Limits.{near_point, near_corners, modest};
 
 use rules::{CONDUCTIVITY_END, Corners, MAX_COORDINATE, MAX_VALUE, Point, Triangle};
 
-pub fn near_point(p: &Point) -> bool
+fn near_point(p: &Point) -> bool
     ensures { result ≡ near_point p.now }
 {
     p.x.unsigned_abs() <= MAX_COORDINATE && p.y.unsigned_abs() <= MAX_COORDINATE
 }
 
 /// Whether a triangle's coordinates and its conductivity are within the limits.
-pub fn is_modest(t: &Triangle) -> bool
+fn is_modest(t: &Triangle) -> bool
     ensures { result ≡ modest t.now }
 {
     near_point(&t.a) && near_point(&t.b) && near_point(&t.c) && t.k < CONDUCTIVITY_END
 }
 
 /// Whether values are within the limits.
-pub(crate) fn are_near(u: &Corners) -> bool
+fn are_near(u: &Corners) -> bool
     ensures { result ≡ near_corners u.now }
 {
     u.a.unsigned_abs() <= MAX_VALUE
