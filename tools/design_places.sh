@@ -27,5 +27,5 @@ show '5g a plate and values on it' 'plate: &View, [us]: &V'
 show '6a counts beside numbers' 'pub (triangles|edges): usize'
 show '6b lent rows in structs' "pub [a-z]+: &'[a-z]+ \["
 show '7 a parameter that says which quotient' 'kind: Kind'
-echo "8a answers: $(find crates -path '*/proofs/*' -name Answers.antt -exec cat {} + | grep -cE '^pub [^ ]+ : ')"
-echo "8b lemmas: $(cat crates/*/proofs/*.antt | grep -cE '^ *(pub )?[^ ]+ : ')"
+echo "8a answers: $(git ls-files crates | grep '/Answers\.antt$' | xargs cat | grep -cE '^pub [^ ]+ : ')"
+echo "8b lemmas: $(git ls-files crates | grep -E '^crates/[^/]+/proofs/[^/]+\.antt$' | xargs cat | grep -cE '^ *(pub )?[^ ]+ : ')"

@@ -1,7 +1,7 @@
 //! Prints the two numbers of a plate, a field and a stream that are built in.
 #![tactic(auto)]
 
-use energy::numbers::{Bracket, bounds};
+use energy::numbers::bounds;
 use rules::Point;
 use std::io;
 
@@ -37,7 +37,7 @@ const STREAM: [i64; 4] = [0, 0, -16, -16];
 
 fn main(rt: HostRuntime) -> io::Result<()> {
     match bounds(&SQUARE, &POINTS, &FIELD, &STREAM) {
-        Some(Bracket { lower, upper }) => println!(rt; "lower {lower}\nupper {upper}"),
+        Some(bracket) => println!(rt; "{bracket}"),
         None => println!(rt; "out of reach"),
     }
 }

@@ -23,8 +23,10 @@ mod tests {
 
     // The lower and the upper number of a square, a field of g at the left and 0 at the right, and a stream of s along the top.
     fn answer(k: i64, m: i64, g: i64, s: i64) -> Option<(i64, u64)> {
-        let found = bounds(&square(k, m, g), &POINTS, &[g, 0, 0, g], &[0, 0, s, s])?;
-        Some((found.lower, found.upper))
+        bounds(&square(k, m, g), &POINTS, &[g, 0, 0, g], &[0, 0, s, s]).map(|found| (
+            found.lower,
+            found.upper,
+        ))
     }
 
     // k, m, g, s, and what is answered

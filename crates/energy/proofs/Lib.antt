@@ -1,4 +1,3 @@
-pub mod Answered
 pub mod Places
 pub mod Totals
 pub mod Works

@@ -1,15 +1,15 @@
 -- The work along the outline, edge by edge. Assumes nothing.
-use Rattle.std.proofs.Common.{◌≡◌, ℕ, ◌+◌, ◌*◌, ◌^◌, ◌<◌, ◌≤◌, Bool, true, false, ◌&&◌, ◌∷◌, ℤ, pos, ◌+ℤ◌, ◌-ℤ◌, ◌*ℤ◌, nat_abs, Some, Option, sym, ap, ◌∙◌, subst, ap₂, subst₂, arith, lit≤}
+use Rattle.std.proofs.Common.{◌≡◌, ℕ, ◌+◌, ◌*◌, ◌^◌, ◌≤◌, Bool, true, false, ◌&&◌, List, ◌∷◌, length, ℤ, pos, ◌+ℤ◌, ◌-ℤ◌, ◌*ℤ◌, nat_abs, Some, sym, ap, ◌∙◌, ap₂, arith, lit≤}
 use borrow.Author.Differences.{ints}
+use Rattle.std.proofs.lemmas.Bool.{and_from, and_left, and_right}
+use Rattle.exact.specs.Given.{Given}
 use Rattle.exact.specs.Lists.{every, sum_z}
-use Rattle.exact.proofs.Lists.{from, from_read, every_fails, every_goes_on}
 use Rattle.rules.specs.declared.Edge.{Edge}
 use Rattle.rules.specs.declared.OutlineEdge.{OutlineEdge}
 use Rattle.rules.specs.declared.OutlineEdge.TheVariants.{Closed, Held}
 use Rattle.rules.specs.Bounds.{work_along}
-use Rattle.rules.specs.Limits.{near, in_reach_along}
+use Rattle.rules.specs.Limits.{near_value, in_reach_along}
 use Rattle.rules.specs.Plates.{Values}
-use Rattle.exact.specs.Given.{Given}
 
 abbrev small : ℤ → Type 0
 small z = nat_abs z ≤ 2 ^ 42
@@ -19,42 +19,64 @@ pub closed : (s : Values) (b : OutlineEdge) (e : Edge) → b ≡ Closed e → Gi
 unfolding work_along in_reach_along
 closed s b e is = (ap (in_reach_along s) is, sym (ap (work_along s) is), lit≤ tt)
 
--- along a held edge, where g, h, p, q were read off it
-pub held : (s : Values) (b : OutlineEdge) (e : Edge) (g h g' h' p q : ℤ) → b ≡ Held e g h → g' ≡ g → h' ≡ h → p ≡ s e.from → q ≡ s e.to → (r : Option ℤ) →
-    Given r ((near (2 ^ 20) g' && near (2 ^ 20) h') && (near (2 ^ 20) p && near (2 ^ 20) q)) ((g' +ℤ h') *ℤ (q -ℤ p)) small → Given r (in_reach_along s b) (work_along s b) small
-unfolding work_along in_reach_along
-held s b e g h g' h' p q is eg eh ep eq r reads =
-    let both : ℤ → ℤ → Bool = λ y z. near (2 ^ 20) y && near (2 ^ 20) z in
-    subst₂ (λ t z. Given r t z small) (ap₂ ◌&&◌ (ap₂ both eg eh) (ap₂ both ep eq) ∙ sym (ap (in_reach_along s) is))
-    (ap₂ ◌*ℤ◌ (ap₂ ◌+ℤ◌ eg eh) (ap₂ ◌-ℤ◌ eq ep) ∙ sym (ap (work_along s) is)) reads
+-- along a held edge, of which the numbers g', h', p, q were read: they are near, or not
+module _ (s : Values) (b : OutlineEdge) (e : Edge) (g h g' h' p q : ℤ) (is : b ≡ Held e g h) (eg : g' ≡ g) (eh : h' ≡ h) (ep : p ≡ s e.from) (eq : q ≡ s e.to) where
+  held-test : in_reach_along s b ≡ ((near_value g' && near_value h') && (near_value p && near_value q))
+  unfolding in_reach_along
+  held-test =
+      let both : ℤ → ℤ → Bool = λ y z. near_value y && near_value z in
+      ap (in_reach_along s) is ∙ sym (ap₂ ◌&&◌ (ap₂ both eg eh) (ap₂ both ep eq))
 
--- a turn: of the n edges that `list` lists, those from index i on are left; those before came to sum
-pub record Turn (s : Values) (test : Bool) (all sum : ℤ) (list : ℕ → OutlineEdge) (n i : ℕ) (b : OutlineEdge) : Type 0 where
-  pub tested : every (in_reach_along s) (from list n i) ≡ test
-  pub total : sum +ℤ sum_z (work_along s) (from list n i) ≡ all
-  pub size : nat_abs sum ≤ i * 2 ^ 42
-  pub within : i < n
-  pub read : b ≡ list i
+  held-work : work_along s b ≡ (g' +ℤ h') *ℤ (q -ℤ p)
+  unfolding work_along
+  held-work = ap (work_along s) is ∙ sym (ap₂ ◌*ℤ◌ (ap₂ ◌+ℤ◌ eg eh) (ap₂ ◌-ℤ◌ eq ep))
 
-regroup : (a b c d all : ℤ) → a +ℤ b ≡ all → b ≡ c +ℤ d → (a +ℤ c) +ℤ d ≡ all
-regroup a b c d all e f = omega (arith, ints)
+  pub too_hot : (near_value g' && near_value h') ≡ false → in_reach_along s b ≡ false
+  too_hot t = held-test ∙ and_left (near_value g' && near_value h') (near_value p && near_value q) t
 
-larger : (a b : ℤ) (i : ℕ) → nat_abs a ≤ i * 2 ^ 42 → nat_abs b ≤ 2 ^ 42 → nat_abs (a +ℤ b) ≤ (i + 1) * 2 ^ 42
-larger a b i h k = omega (arith, ints)
+  pub too_far : (near_value p && near_value q) ≡ false → in_reach_along s b ≡ false
+  too_far t = held-test ∙ and_right (near_value g' && near_value h') (near_value p && near_value q) t
 
-module _ {s : Values} {test : Bool} {all sum : ℤ} {list : ℕ → OutlineEdge} {n i : ℕ} {b : OutlineEdge} (turn : Turn s test all sum list n i b) where
-  first : from list n i ≡ b ∷ from list n (i + 1)
-  first = from_read list n i b turn.within turn.read
+  pub held : (z : ℤ) → (near_value g' && near_value h') ≡ true → (near_value p && near_value q) ≡ true → z ≡ (g' +ℤ h') *ℤ (q -ℤ p) → small z →
+      Given (Some z) (in_reach_along s b) (work_along s b) small
+  held z t u is-z less = (held-test ∙ and_from (near_value g' && near_value h') (near_value p && near_value q) t u, is-z ∙ sym held-work, less)
 
-  pub out_of_reach : in_reach_along s b ≡ false → test ≡ false
-  out_of_reach e = every_fails (in_reach_along s) test (from list n i) (from list n (i + 1)) b turn.tested first e
+-- ---- along some edges, of which `rest` are left: those before came to x
+pub record Turn (s : Values) (test : Bool) (all x : ℤ) (rest : List OutlineEdge) : Type 0 where
+  pub tested : every (in_reach_along s) rest ≡ test
+  pub total : x +ℤ sum_z (work_along s) rest ≡ all
+  pub size : nat_abs x + length rest * 2 ^ 42 ≤ 2 ^ 58
 
-  -- y is the next sum, as the machine has it
-  pub one_more : (z y : ℤ) → y ≡ sum +ℤ z → in_reach_along s b ≡ true → z ≡ work_along s b → nat_abs z ≤ 2 ^ 42 →
-      (every (in_reach_along s) (from list n (i + 1)) ≡ test) × (y +ℤ sum_z (work_along s) (from list n (i + 1)) ≡ all) × (nat_abs y ≤ (i + 1) * 2 ^ 42)
-  one_more z y next reach is size = (
-    every_goes_on (in_reach_along s) test (from list n i) (from list n (i + 1)) b turn.tested first reach,
-    ap (λ w. w +ℤ sum_z (work_along s) (from list n (i + 1))) next
-        ∙ regroup sum _ z _ all turn.total (ap (sum_z (work_along s)) first ∙ ap (λ w. w +ℤ sum_z (work_along s) (from list n (i + 1))) (sym is)),
-    subst (λ w. nat_abs w ≤ (i + 1) * 2 ^ 42) (sym next) (larger sum z i turn.size size),
-  )
+pub begun : (s : Values) {bs rest : List OutlineEdge} → rest ≡ bs → length bs ≤ 65536 → Turn s (every (in_reach_along s) bs) (sum_z (work_along s) bs) (pos 0) rest
+begun s {bs} {rest} e few =
+    let count = ap length e in
+    record { tested = ap (every (in_reach_along s)) e; total = ap (λ z. pos 0 +ℤ z) (ap (sum_z (work_along s)) e) ∙ nothing (sum_z (work_along s) bs); size = omega (arith, count) }
+  where
+    nothing : (z : ℤ) → pos 0 +ℤ z ≡ z
+    nothing z = omega (arith, ints)
+
+module _ {s : Values} {test : Bool} {all x : ℤ} {rest : List OutlineEdge} (turn : Turn s test all x rest) where
+  module _ {b : OutlineEdge} {others : List OutlineEdge} (first : rest ≡ b ∷ others) where
+    pub room : nat_abs x + 2 ^ 42 ≤ 2 ^ 58
+    room = let count = ap length first in let size = turn.size in omega (arith, count)
+
+    -- y is the next sum, as the machine has it
+    pub one_more : (z y : ℤ) → y ≡ x +ℤ z → in_reach_along s b ≡ true → z ≡ work_along s b → small z → Turn s test all y others
+    one_more z y next reach is less =
+        record {
+          tested = goes_on;
+          total = regroup x (sum_z (work_along s) rest) z (sum_z (work_along s) others) y all turn.total (ap (sum_z (work_along s)) first ∙ ap (λ w. w +ℤ sum_z (work_along s) others) (sym is)) next;
+          size = larger x z y (length rest) (length others) turn.size less one_longer next;
+        }
+      where
+        goes_on : every (in_reach_along s) others ≡ test
+        goes_on = let tested = turn.tested in let split = ap (every (in_reach_along s)) first in cc
+
+        one_longer : length rest ≡ 1 + length others
+        one_longer = let count = ap length first in omega (arith, count)
+
+        regroup : (a c d e y w : ℤ) → a +ℤ c ≡ w → c ≡ d +ℤ e → y ≡ a +ℤ d → y +ℤ e ≡ w
+        regroup a c d e y w f g h = omega (arith, ints)
+
+        larger : (a d y : ℤ) (m n : ℕ) → nat_abs a + m * 2 ^ 42 ≤ 2 ^ 58 → nat_abs d ≤ 2 ^ 42 → m ≡ 1 + n → y ≡ a +ℤ d → nat_abs y + n * 2 ^ 42 ≤ 2 ^ 58
+        larger a d y m n h k l f = omega (arith, ints)

@@ -3,54 +3,59 @@ ghost use Rattle.std.specs.Prelude.{◌≡◌, false, if◌then◌else◌, Some,
 ghost use Rattle.rules.specs.Bounds.{upper as upper_of, lower as lower_of, upper_in_reach, lower_in_reach, both_in_reach, TwoNumbers};
 ghost use Rattle.rules.specs.Numbers.{plate_of, triangles_of};
 ghost use Rattle.rules.specs.Plates.{values_at};
+ghost use Rattle.energy.specs.Printed.{bracket_text};
 
-use crate::outline::work;
-use crate::sums::total;
-use crate::values::{Listed, Values};
+use crate::values::{Listed, OnPlate, Values};
 use plate::view::View;
 use rules::Point;
+use std::fmt;
 use triangle::kinds::Kind;
 
-/// The upper number of values on a plate, or `None` where it is out of reach.
-fn upper<V: Values>(plate: &View, u: &V) -> Option<u64>
-    ensures { result ≡ (if upper_in_reach (V.value u.now) (plate_of plate.now.numbers.now) then Some (upper_of (V.value u.now) (triangles_of plate.now.numbers.now)) else None) }
-{
-    total(Kind::Spent, plate, u)
-}
+impl<'a, V: Values> OnPlate<'a, V> {
+    /// The upper number of the values, or `None` where it is out of reach.
+    fn upper(&self) -> Option<u64>
+        ensures { result ≡ (if upper_in_reach (V.value self.now.values) (plate_of self.now.plate.numbers.now) then Some (upper_of (V.value self.now.values) (triangles_of self.now.plate.numbers.now)) else None) }
+    {
+        self.total(Kind::Spent)
+    }
 
-/// The lower number of values on a plate, or `None` where it is out of reach.
-fn lower<V: Values>(plate: &View, s: &V) -> Option<i64>
-    ensures { result ≡ (if lower_in_reach (V.value s.now) (plate_of plate.now.numbers.now) then Some (lower_of (V.value s.now) (plate_of plate.now.numbers.now)) else None) }
-{
-    let work = work(plate, s)?;
-    let drag = total(Kind::Dragged, plate, s)?;
-    Some(work - drag as i64)
+    /// The lower number of the values, or `None` where it is out of reach.
+    fn lower(&self) -> Option<i64>
+        ensures { result ≡ (if lower_in_reach (V.value self.now.values) (plate_of self.now.plate.numbers.now) then Some (lower_of (V.value self.now.values) (plate_of self.now.plate.numbers.now)) else None) }
+    {
+        let work = self.work()?;
+        let drag = self.total(Kind::Dragged)?;
+        // `as`: a drag is below 2^62, and a `try_from` would add a refusal that never comes.
+        Some(work - drag as i64)
+    }
 }
 
 /// The lower and the upper number.
-#[derive(Clone, Copy)]
+#[derive(Clone, Copy, PartialEq, Eq, Debug)]
 pub struct Bracket {
     pub lower: i64,
     pub upper: u64,
+}
+
+impl fmt::Display for Bracket {
+    ghost output = { λ b. Some (bracket_text b.lower b.upper) };
+
+    fn fmt<W: fmt::Write>(&self, f: &mut fmt::Formatter<W>) -> fmt::Result {
+        let Bracket { lower, upper } = self;
+        write!(f, "lower {lower}\nupper {upper}")
+    }
 }
 
 /// The two numbers of a plate, a field and a stream, each a row of numbers, or `None` where they are out of reach.
 pub fn bounds(plate: &[i64], points: &[Point], field: &[i64], stream: &[i64]) -> Option<Bracket>
     ensures { MatchOption result (both_in_reach plate.now (values_at points.now field.now) (values_at points.now stream.now) ≡ false) (λ b. TwoNumbers plate.now (values_at points.now field.now) (values_at points.now stream.now) b.lower b.upper) }
 {
-    if !View::fits(plate) {
-        return None;
-    }
-    let view = View::new(plate);
-    let stream = Listed {
-        points,
-        numbers: stream,
+    let plate = View::read(plate)?;
+    let numbers_on = |numbers| OnPlate {
+        plate,
+        values: Listed { points, numbers },
     };
-    let field = Listed {
-        points: stream.points,
-        numbers: field,
-    };
-    let lower = lower(&view, &stream)?;
-    let upper = upper(&view, &field)?;
+    let lower = numbers_on(stream).lower()?;
+    let upper = numbers_on(field).upper()?;
     Some(Bracket { lower, upper })
 }

@@ -4,7 +4,7 @@ use borrow.Author.Differences.{ints}
 use Rattle.exact.specs.Fractions.{Fraction, whole, ◌+F◌, ◌-F◌, neg_f, scaled, ◌≤F◌, ◌≈F◌}
 use Rattle.exact.proofs.Ring.{Expr, var, con, ◌⊕◌, ◌⊗◌, ⊖◌, one_times, solve}
 use Rattle.exact.proofs.Certificates.{Fact, ◌≼◌, hyp, ◌⊞◌, ◌⊠◌, natural, prove≤}
-use Rattle.exact.proofs.Order.{≤ℤ_of_≡, *ℤ_cancel_≤ℤ, pos_≤ℤ}
+use Rattle.exact.proofs.Order.{*ℤ_cancel_≤ℤ}
 
 -- ---- four fractions as expressions, and the facts that their denominators are not negative
 record Frac : Type 0 where
@@ -56,7 +56,7 @@ pub ≤F_refl : (p : Fraction) → p ≤F p
 
 pub ≤F_trans : (p q r : Fraction) → 0 < q.den → p ≤F q → q ≤F r → p ≤F r
 ≤F_trans p q r above h k =
-    *ℤ_cancel_≤ℤ (pos q.den) (pos_≤ℤ above)
+    *ℤ_cancel_≤ℤ (pos q.den) (omega (arith, ints))
     (prove≤ (parts p q r r) ((P ≼F Q) ∷ (Q ≼F R) ∷ natural_of_lem P ∷ natural_of_lem R ∷ []) ((hyp 0 ⊠ hyp 3) ⊞ (hyp 1 ⊠ hyp 2)) (Q.d ⊗ lhs P R) (Q.d ⊗ lhs R P) tt
     (h, (k, (natural p.den, (natural r.den, tt)))))
 
@@ -84,7 +84,7 @@ pub ≤F_whole : (a b : ℤ) → whole a ≤F whole b → a ≤ℤ b
 
 -- ---- the same number
 pub ≈F_from : (p q : Fraction) → p.num *ℤ pos q.den ≡ q.num *ℤ pos p.den → p ≈F q
-≈F_from p q e = (≤ℤ_of_≡ e, ≤ℤ_of_≡ (sym e))
+≈F_from p q e = (omega (arith, ints), omega (arith, ints))
 
 pub ≈F_of_≡ : (p q : Fraction) → p ≡ q → p ≈F q
 ≈F_of_≡ p q e = ≈F_from p q (ap₂ (λ a b. a.num *ℤ pos b.den) e (sym e))

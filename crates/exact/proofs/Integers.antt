@@ -1,12 +1,12 @@
 -- The laws of a commutative ring that the library's integers lack. Assumes nothing.
 use Rattle.std.proofs.Common.{◌≡◌, ℕ, ◌+◌, ◌*◌, ℤ, pos, ◌+ℤ◌, ◌*ℤ◌, neg_ℤ, ap, arith}
-use borrow.Author.Differences.{up, down, ints, sum_is_lem, product_is, neg_is, same_in}
+use borrow.Author.Differences.{up, down, ints, sum_is_lem, product_is}
 use lib.IntN.{*ℤ_comm}
 
 pub *ℤ_distrib : (a b c : ℤ) → a *ℤ (b +ℤ c) ≡ (a *ℤ b) +ℤ (a *ℤ c)
 *ℤ_distrib a b c =
     let times : (n : ℕ) → n * (up (b +ℤ c) + down b + down c) ≡ n * (down (b +ℤ c) + up b + up c) = λ n. ap (λ m. n * m) (sum_is_lem b c) in
-    same_in _ _ (omega (arith, times (up a), times (down a), product_is a (b +ℤ c), product_is a b, product_is a c, sum_is_lem (a *ℤ b) (a *ℤ c)))
+    omega (arith, ints, times (up a), times (down a))
 
 pub *ℤ_distribʳ : (a b c : ℤ) → (a +ℤ b) *ℤ c ≡ (a *ℤ c) +ℤ (b *ℤ c)
 *ℤ_distribʳ a b c = rw (*ℤ_comm (a +ℤ b) c, *ℤ_comm a c, *ℤ_comm b c) (*ℤ_distrib c a b)
@@ -17,16 +17,11 @@ pub *ℤ_assoc : (a b c : ℤ) → (a *ℤ b) *ℤ c ≡ a *ℤ (b *ℤ c)
     λ n. (ap (λ m. m * n) (product_is a b).0, ap (λ m. m * n) (product_is a b).1) in
     let right : (n : ℕ) → (n * up (b *ℤ c) ≡ n * (up b * up c + down b * down c)) × (n * down (b *ℤ c) ≡ n * (up b * down c + down b * up c)) =
     λ n. (ap (λ m. n * m) (product_is b c).0, ap (λ m. n * m) (product_is b c).1) in
-    same_in _ _ (omega (arith, left (up c), left (down c), right (up a), right (down a), product_is (a *ℤ b) c, product_is a (b *ℤ c)))
+    omega (arith, ints, left (up c), left (down c), right (up a), right (down a))
 
 -- two sums added term by term
 pub +ℤ_exchange : (a b c d : ℤ) → (a +ℤ b) +ℤ (c +ℤ d) ≡ (a +ℤ c) +ℤ (b +ℤ d)
-+ℤ_exchange a b c d = same_in _ _ (omega (arith, sum_is_lem (a +ℤ b) (c +ℤ d), sum_is_lem (a +ℤ c) (b +ℤ d), sum_is_lem a b, sum_is_lem c d, sum_is_lem a c, sum_is_lem b d))
-
-pub neg_ℤ_*ℤ : (a b : ℤ) → neg_ℤ a *ℤ b ≡ neg_ℤ (a *ℤ b)
-neg_ℤ_*ℤ a b =
-    let times : (n : ℕ) → (up (neg_ℤ a) * n ≡ down a * n) × (down (neg_ℤ a) * n ≡ up a * n) = λ n. (ap (λ m. m * n) (neg_is a).0, ap (λ m. m * n) (neg_is a).1) in
-    same_in _ _ (omega (arith, times (up b), times (down b), product_is (neg_ℤ a) b, product_is a b, neg_is (a *ℤ b)))
++ℤ_exchange a b c d = omega (arith, ints)
 
 -- two numbers whose difference is nought
 pub equal_from_difference : (a b : ℤ) → a +ℤ neg_ℤ b ≡ pos 0 → a ≡ b

@@ -1,4 +1,3 @@
-pub mod Capped
 pub mod Certificates
 pub mod FractionSums
 pub mod Fractions
@@ -8,7 +7,5 @@ pub mod Machine
 pub mod Members
 pub mod Mixes
 pub mod Order
-pub mod Products
 pub mod Ring
-pub mod Rounding
 pub mod Sums

@@ -1,8 +1,7 @@
 -- Signed arithmetic of 64 bits, at numbers whose sizes are bounded: each number goes to bits and back, and nothing is lost. Assumes nothing.
-use Rattle.std.proofs.Common.{◌≡◌, ℕ, ◌+◌, ◌*◌, ◌^◌, ◌<◌, ◌≤◌, ℤ, ◌+ℤ◌, ◌-ℤ◌, ◌*ℤ◌, nat_abs, sym, ◌∙◌, subst, ap₂, lt_of_le_of_lt, arith, w64, SFits, to_z, of_z}
+use Rattle.std.proofs.Common.{◌≡◌, ℕ, ◌+◌, ◌*◌, ◌^◌, ◌<◌, ◌≤◌, ℤ, ◌+ℤ◌, ◌-ℤ◌, ◌*ℤ◌, nat_abs, sym, ◌∙◌, subst, ap₂, mul-le-mul, arith, w64, SFits, to_z, of_z}
 use borrow.Author.Differences.{ints}
-use Rattle.std.proofs.lemmas.Int.{to_z-of_z}
-use Rattle.exact.proofs.Products.{nat_abs_*ℤ_≤}
+use Rattle.std.proofs.lemmas.Int.{to_z-of_z, unsigned_abs-mul}
 
 abbrev pub back : ℤ → ℤ
 back z = to_z w64 (of_z w64 z)
@@ -20,35 +19,20 @@ pub record Result (x z : ℤ) (m : ℕ) : Type 0 where
 pub operand : (z : ℤ) (m : ℕ) → SFits w64 z → nat_abs z ≤ m → Operand (back z) z m
 operand z m fits size = record { is = to_z-of_z w64 z fits; size = size }
 
-small_fits : (z : ℤ) (m : ℕ) → nat_abs z ≤ m → m < 2 ^ 63 → SFits w64 z
-small_fits z m h small = omega (arith, ints)
-
 result : (x z : ℤ) (m : ℕ) → x ≡ z → nat_abs z ≤ m → m < 2 ^ 63 → Result x z m
-result x z m e size small =
-    let fits : SFits w64 x = subst (SFits w64) (sym e) (small_fits z m size small) in
-    record { fits = fits; read = record { is = to_z-of_z w64 x fits ∙ e; size = size } }
-
-sum_size : (a b : ℤ) (m n : ℕ) → nat_abs a ≤ m → nat_abs b ≤ n → nat_abs (a +ℤ b) ≤ m + n
-sum_size a b m n h k = omega (arith, ints)
-
-difference_size : (a b : ℤ) (m n : ℕ) → nat_abs a ≤ m → nat_abs b ≤ n → nat_abs (a -ℤ b) ≤ m + n
-difference_size a b m n h k = omega (arith, ints)
+result x z m e size small = grind arith
 
 module _ {x y a b : ℤ} {m n : ℕ} (p : Operand x a m) (q : Operand y b n) where
   pub sum : m + n < 2 ^ 63 → Result (x +ℤ y) (a +ℤ b) (m + n)
-  sum small = result (x +ℤ y) (a +ℤ b) (m + n) (ap₂ ◌+ℤ◌ p.is q.is) (sum_size a b m n p.size q.size) small
+  sum small = result (x +ℤ y) (a +ℤ b) (m + n) (ap₂ ◌+ℤ◌ p.is q.is) (omega (arith, ints)) small
 
   pub difference : m + n < 2 ^ 63 → Result (x -ℤ y) (a -ℤ b) (m + n)
-  difference small = result (x -ℤ y) (a -ℤ b) (m + n) (ap₂ ◌-ℤ◌ p.is q.is) (difference_size a b m n p.size q.size) small
+  difference small = result (x -ℤ y) (a -ℤ b) (m + n) (ap₂ ◌-ℤ◌ p.is q.is) (omega (arith, ints)) small
 
   -- r is what the call of `product` answers
   pub product : (r : ℤ) → r ≡ x *ℤ y → m * n < 2 ^ 63 → Result r (a *ℤ b) (m * n)
-  product r e small = result r (a *ℤ b) (m * n) (e ∙ ap₂ ◌*ℤ◌ p.is q.is) (nat_abs_*ℤ_≤ a b m n p.size q.size) small
+  product r e small = result r (a *ℤ b) (m * n) (e ∙ ap₂ ◌*ℤ◌ p.is q.is) (omega (arith, unsigned_abs-mul a b, mul-le-mul p.size q.size)) small
 
 -- the size of an operand, as the machine has it
 pub operand_size : {x z : ℤ} {m : ℕ} → Operand x z m → nat_abs x ≤ m
 operand_size {m} p = subst (λ y. nat_abs y ≤ m) (sym p.is) p.size
-
--- an operand that `product` takes
-pub factor : {x z : ℤ} {m : ℕ} → Operand x z m → m < 2 ^ 31 → nat_abs x < 2 ^ 31
-factor p small = lt_of_le_of_lt (operand_size p) small

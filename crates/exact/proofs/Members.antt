@@ -1,5 +1,5 @@
 -- Tests and counts over lists, by the members of the list. Assumes nothing.
-use Rattle.std.proofs.Common.{◌≡◌, ℕ, suc, ◌+◌, ◌<◌, ◌≤◌, Bool, true, false, cond, ◌&&◌, ◌⊎◌, List, [], ◌∷◌, ◌++◌, map, length, sym, refl, ap, ◌∙◌, subst, inl, inr, ⊎_elim, append_assoc, arith}
+use Rattle.std.proofs.Common.{◌≡◌, ℕ, suc, ◌+◌, ◌<◌, ◌≤◌, Bool, true, false, cond, List, [], ◌∷◌, ◌++◌, map, length, sym, refl, ap, ◌∙◌, subst, ⊎_elim, append_assoc, arith}
 use mathlib.Core.List.Memᴰ
 use mathlib.Core.List.{flat_map, Memᴰ}
 use Rattle.std.proofs.lemmas.Bool.{and_parts, and_from, or_cases, or_left, or_right, cases_Bool, true≢false}
@@ -14,13 +14,8 @@ abbrev pub ones : {A : Type 0} → (A → Bool) → List A → ℕ
 ones p [] = 0
 ones p (x ∷ xs) = one (p x) + ones p xs
 
-more : (b : Bool) (n : ℕ) → cond b (suc n) n ≡ one b + n
-more true n = omega arith
-more false n = omega arith
-
 one_at_most : (b c : Bool) → (b ≡ true → c ≡ true) → one b ≤ one c
-one_at_most true c h = let is = ap one (h refl) in omega arith
-one_at_most false c h = omega arith
+one_at_most b c h = grind arith
 
 module _ {A : Type 0} where
   -- ---- all pass a test
@@ -32,19 +27,6 @@ module _ {A : Type 0} where
   pub every_in : (p : A → Bool) (xs : List A) → ((x : A) → Memᴰ x xs → p x ≡ true) → every p xs ≡ true
   every_in p [] h = refl
   every_in p (x ∷ xs) h = and_from (p x) (every p xs) (h x (Memᴰ.head refl)) (every_in p xs (λ y m. h y (Memᴰ.tail m)))
-
-  pub every_++ : (p : A → Bool) (xs ys : List A) → every p xs ≡ true → every p ys ≡ true → every p (xs ++ ys) ≡ true
-  every_++ p [] ys h k = k
-  every_++ p (x ∷ xs) ys h k =
-      let both = and_parts (p x) (every p xs) h in
-      and_from (p x) (every p (xs ++ ys)) both.0 (every_++ p xs ys both.1 k)
-
-  -- or some element fails
-  pub every_or : (p : A → Bool) (xs : List A) → (every p xs ≡ true) ⊎ ((x : A) × Memᴰ x xs × (p x ≡ false))
-  every_or p [] = inl refl
-  every_or p (x ∷ xs) =
-      ⊎_elim (λ t. ⊎_elim (λ rest. inl (and_from (p x) (every p xs) t rest)) (λ found. inr (found.0, Memᴰ.tail found.1, found.2)) (every_or p xs))
-      (λ f. inr (x, Memᴰ.head refl, f)) (cases_Bool (p x))
 
   -- ---- some pass it
   pub any_out : (p : A → Bool) (xs : List A) → any p xs ≡ true → (x : A) × Memᴰ x xs × (p x ≡ true)
@@ -59,7 +41,7 @@ module _ {A : Type 0} where
 
   -- ---- how many do
   pub count_cons : (p : A → Bool) (x : A) (xs : List A) → count p (x ∷ xs) ≡ one (p x) + count p xs
-  count_cons p x xs = more (p x) (count p xs)
+  count_cons p x xs = grind arith
 
   pub count_ones : (p : A → Bool) (xs : List A) → count p xs ≡ ones p xs
   count_ones p [] = refl
@@ -141,16 +123,6 @@ module _ {A : Type 0} where
       ⊎_elim (λ e. (x, Memᴰ.head refl, e)) (λ e. let rest = count_one p xs (subst (λ b. 0 < cond b (suc (count p xs)) (count p xs)) e h) in (rest.0, Memᴰ.tail rest.1, rest.2)) (cases_Bool (p x))
 
 module _ {A B : Type 0} where
-  pub member_map : (f : A → B) (xs : List A) (x : A) → Memᴰ x xs → Memᴰ (f x) (map f xs)
-  member_map f [] x m = elim m [ ]
-  member_map f (y ∷ ys) x (Memᴰ.head e) = Memᴰ.head (ap f e)
-  member_map f (y ∷ ys) x (Memᴰ.tail m) = Memᴰ.tail (member_map f ys x m)
-
-  pub map_member : (f : A → B) (xs : List A) (y : B) → Memᴰ y (map f xs) → (x : A) × Memᴰ x xs × (y ≡ f x)
-  map_member f [] y m = elim m [ ]
-  map_member f (x ∷ xs) y (Memᴰ.head e) = (x, Memᴰ.head refl, e)
-  map_member f (x ∷ xs) y (Memᴰ.tail m) = let rest = map_member f xs y m in (rest.0, Memᴰ.tail rest.1, rest.2)
-
   pub member_flat_map : (f : A → List B) (xs : List A) (x : A) (y : B) → Memᴰ x xs → Memᴰ y (f x) → Memᴰ y (flat_map f xs)
   unfolding flat_map
   member_flat_map f [] x y m n = elim m [ ]
@@ -163,12 +135,8 @@ module _ {A B : Type 0} where
   flat_map_member f (x ∷ xs) y m =
       ⊎_elim (λ n. (x, Memᴰ.head refl, n)) (λ n. let rest = flat_map_member f xs y n in (rest.0, Memᴰ.tail rest.1, rest.2)) (Memᴰ.append_cases (f x) m)
 
-  pub every_map : (p : B → Bool) (f : A → B) (xs : List A) → every p (map f xs) ≡ every (λ x. p (f x)) xs
-  every_map p f [] = refl
-  every_map p f (x ∷ xs) = ap (λ b. p (f x) && b) (every_map p f xs)
-
   pub every_flat_map : (p : B → Bool) (f : A → List B) (xs : List A) → ((x : A) → Memᴰ x xs → every p (f x) ≡ true) → every p (flat_map f xs) ≡ true
-  every_flat_map p f xs h = every_in p (flat_map f xs) (λ y m. let at = flat_map_member f xs y m in every_out p (f at.0) (h at.0 at.1) y at.2)
+  every_flat_map p f xs h = grind (arith, every_in, flat_map_member, every_out)
 
   pub count_each : (p : B → Bool) (q : A → Bool) (f : A → List B) (xs : List A) → ((x : A) → Memᴰ x xs → count p (f x) ≡ one (q x)) → count p (flat_map f xs) ≡ count q xs
   unfolding flat_map
@@ -191,11 +159,7 @@ module _ {A B : Type 0} where
   count_part p f (y ∷ ys) x (Memᴰ.tail m) = let split = count_++ p (f y) (flat_map f ys) in let rest = count_part p f ys x m in omega arith
 
   twice_counted : (p : B → Bool) (f : A → List B) (z : A) (zs : List A) → count p (f z ++ flat_map f zs) ≡ 1 → (x y : A) → x ≡ z → Memᴰ y zs → 0 < count p (f x) → 0 < count p (f y) → ⊥
-  twice_counted p f z zs h x y e n hx hy =
-      let split = count_++ p (f z) (flat_map f zs) in
-      let here = ap (λ w. count p (f w)) e in
-      let rest = count_part p f zs y n in
-      omega arith
+  twice_counted p f z zs h x y e n hx hy = grind (arith, count_++, count_part)
 
   -- where just one element of all the parts passes, it is in one part
   pub only_one : (p : B → Bool) (f : A → List B) (xs : List A) → count p (flat_map f xs) ≡ 1 → (x y : A) → Memᴰ x xs → Memᴰ y xs → 0 < count p (f x) → 0 < count p (f y) → x ≡ y

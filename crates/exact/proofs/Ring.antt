@@ -1,9 +1,11 @@
 -- Equations between polynomials with whole coefficients, proved by computing: both sides are written as expressions, and the
 -- coefficients of their difference are all nought. `solve` is the theorem. Assumes nothing.
-use Rattle.std.proofs.Common.{◌≡◌, ℕ, zero, suc, Bool, true, false, ◌&&◌, T, List, [], ◌∷◌, map, ℤ, pos, negsuc, ◌+ℤ◌, ◌*ℤ◌, neg_ℤ, sym, refl, ap, ◌∙◌, ap₂, arith}
+use Rattle.std.proofs.Common.{◌≡◌, ℕ, zero, suc, Bool, true, false, T, List, [], ◌∷◌, map, ℤ, pos, negsuc, ◌+ℤ◌, ◌*ℤ◌, neg_ℤ, sym, refl, ap, ◌∙◌, ap₂, arith}
 use borrow.Author.Differences.{ints}
-use lib.IntN.{*ℤ_comm, *ℤ-zero, zero-*ℤ, +ℤ_idl, +ℤ_idr, neg_ℤ-+ℤ}
-use Rattle.exact.proofs.Integers.{*ℤ_distrib, *ℤ_distribʳ, *ℤ_assoc, +ℤ_exchange, neg_ℤ_*ℤ, equal_from_difference}
+use lib.IntN.{*ℤ_comm, *ℤ-zero, zero-*ℤ, +ℤ_idl, +ℤ_idr}
+use lib.Ieee.Fits.{and_l, and_r}
+use Rattle.std.specs.List.{list_all}
+use Rattle.exact.proofs.Integers.{*ℤ_distrib, *ℤ_distribʳ, *ℤ_assoc, +ℤ_exchange, equal_from_difference}
 
 -- ---- expressions over the numbers of a list, by their places in it
 infixl 6 ◌⊕◌ ◌⊝◌
@@ -40,10 +42,6 @@ add_l add (p ∷ ps) (q ∷ qs) = add p q ∷ add_l add ps qs
 abbrev pub mul_l : {A : Type 0} → A → (A → A → A) → (A → A → A) → List A → List A → List A
 mul_l none add mul [] qs = []
 mul_l none add mul (p ∷ ps) qs = add_l add (map (mul p) qs) (none ∷ mul_l none add mul ps qs)
-
-abbrev pub all_l : {A : Type 0} → (A → Bool) → List A → Bool
-all_l p [] = true
-all_l p (x ∷ xs) = p x && all_l p xs
 
 abbrev pub horner : {A : Type 0} → (A → ℤ) → ℤ → List A → ℤ
 horner at x [] = pos 0
@@ -86,7 +84,7 @@ nought (negsuc n) = false
 
 abbrev pub nought_p : (ρ : List ℤ) → Poly ρ → Bool
 nought_p [] = nought
-nought_p (x ∷ ρ) = all_l (nought_p ρ)
+nought_p (x ∷ ρ) = list_all (nought_p ρ)
 
 abbrev pub norm : (ρ : List ℤ) → Expr → Poly ρ
 norm ρ (var i) = var_p ρ i
@@ -105,22 +103,13 @@ same ρ e f = nought_p ρ (norm ρ (e ⊝ f))
 
 -- ---- laws of numbers, in the forms that the proofs below want
 factor_inside : (c x a b : ℤ) → c *ℤ (a +ℤ (x *ℤ b)) ≡ (c *ℤ a) +ℤ (x *ℤ (c *ℤ b))
-factor_inside c x a b =
-    *ℤ_distrib c a (x *ℤ b) ∙ ap (λ z. (c *ℤ a) +ℤ z) (sym (*ℤ_assoc c x b) ∙ ap (λ z. z *ℤ b) (*ℤ_comm c x) ∙ *ℤ_assoc x c b)
+factor_inside c x a b = grind (arith, *ℤ_distrib, *ℤ_assoc, *ℤ_comm)
 
 negation_inside : (x a b : ℤ) → neg_ℤ (a +ℤ (x *ℤ b)) ≡ neg_ℤ a +ℤ (x *ℤ neg_ℤ b)
-negation_inside x a b = neg_ℤ-+ℤ a (x *ℤ b) ∙ ap (λ z. neg_ℤ a +ℤ z) (ap neg_ℤ (*ℤ_comm x b) ∙ sym (neg_ℤ_*ℤ b x) ∙ *ℤ_comm (neg_ℤ b) x)
+negation_inside x a b = grind arith
 
 pub one_times : (x : ℤ) → pos 1 *ℤ x ≡ x
 one_times x = omega (arith, ints)
-
-pub and_left : (a b : Bool) → T (a && b) → T a
-and_left true b t = tt
-and_left false b t = t
-
-pub and_right : (a b : Bool) → T (a && b) → T b
-and_right true b t = t
-and_right false b t = absurd t
 
 -- ---- the operations on coefficient lists are those of the numbers they stand for
 module _ {A : Type 0} (at : A → ℤ) (x : ℤ) where
@@ -148,8 +137,7 @@ module _ {A : Type 0} (at : A → ℤ) (x : ℤ) where
 
 -- ---- and so `norm` keeps the value
 none_is : (ρ : List ℤ) → eval ρ (none ρ) ≡ pos 0
-none_is [] = refl
-none_is (x ∷ ρ) = refl
+none_is ρ = grind arith
 
 con_is : (ρ : List ℤ) (z : ℤ) → eval ρ (con_p ρ z) ≡ z
 con_is [] z = refl
@@ -179,10 +167,10 @@ norm_is ρ (e ⊕ f) = add_is ρ (norm ρ e) (norm ρ f) ∙ ap₂ ◌+ℤ◌ (n
 norm_is ρ (e ⊗ f) = mul_is ρ (norm ρ e) (norm ρ f) ∙ ap₂ ◌*ℤ◌ (norm_is ρ e) (norm_is ρ f)
 norm_is ρ (⊖ e) = neg_is ρ (norm ρ e) ∙ ap neg_ℤ (norm_is ρ e)
 
-all_nought : {A : Type 0} (at : A → ℤ) (x : ℤ) (test : A → Bool) → ((p : A) → T (test p) → at p ≡ pos 0) → (ps : List A) → T (all_l test ps) → horner at x ps ≡ pos 0
+all_nought : {A : Type 0} (at : A → ℤ) (x : ℤ) (test : A → Bool) → ((p : A) → T (test p) → at p ≡ pos 0) → (ps : List A) → T (list_all test ps) → horner at x ps ≡ pos 0
 all_nought at x test law [] t = refl
 all_nought at x test law (p ∷ ps) t =
-    ap₂ ◌+ℤ◌ (law p (and_left (test p) (all_l test ps) t)) (ap (λ h. x *ℤ h) (all_nought at x test law ps (and_right (test p) (all_l test ps) t)) ∙ *ℤ-zero x)
+    ap₂ ◌+ℤ◌ (law p (and_l (test p) (list_all test ps) t)) (ap (λ h. x *ℤ h) (all_nought at x test law ps (and_r (test p) (list_all test ps) t)) ∙ *ℤ-zero x)
 
 nought_is : (ρ : List ℤ) (p : Poly ρ) → T (nought_p ρ p) → eval ρ p ≡ pos 0
 nought_is [] (pos zero) t = refl

@@ -1,8 +1,8 @@
 -- Laws of finite sums of integers: how a sum is split, moved through and compared. Assumes nothing.
-use Rattle.std.proofs.Common.{◌≡◌, ℕ, suc, Bool, true, false, cond, List, [], ◌∷◌, ◌++◌, map, ℤ, pos, ◌+ℤ◌, ◌*ℤ◌, neg_ℤ, ◌≤ℤ◌, sum_by, sym, refl, ap, ◌∙◌, arith}
+use Rattle.std.proofs.Common.{◌≡◌, ℕ, suc, Bool, cond, List, [], ◌∷◌, ◌++◌, map, ℤ, pos, ◌+ℤ◌, ◌*ℤ◌, neg_ℤ, sum_by, sym, refl, ap, ◌∙◌, arith}
 use mathlib.Core.List.{flat_map, Memᴰ}
 use borrow.Author.Differences.{ints}
-use lib.IntN.{+ℤ_assoc, +ℤ_idl, +ℤ_idr, *ℤ-zero, neg_ℤ-+ℤ, suc_ℤ-*ℤ}
+use lib.IntN.{+ℤ_assoc, +ℤ_idl, *ℤ-zero, neg_ℤ-+ℤ}
 use Rattle.std.proofs.lemmas.List.Sums.{sum_by-cons}
 use Rattle.exact.specs.Lists.{sum_z, count}
 use Rattle.exact.proofs.Integers.{*ℤ_distrib}
@@ -28,7 +28,7 @@ module _ {A : Type 0} where
   sum_z_zero [] = refl
   sum_z_zero (x ∷ xs) = ap (λ n. pos 0 +ℤ n) (sum_z_zero xs)
 
-  -- two sums are equal, or in order, where their terms are
+  -- two sums are equal where their terms are
 
   pub sum_z_cong_mem : {f g : A → ℤ} (xs : List A) → ((x : A) → Memᴰ x xs → f x ≡ g x) → sum_z f xs ≡ sum_z g xs
   sum_z_cong_mem [] h = refl
@@ -40,36 +40,13 @@ module _ {A : Type 0} where
   pub sum_z_cong : {f g : A → ℤ} (xs : List A) → ((x : A) → f x ≡ g x) → sum_z f xs ≡ sum_z g xs
   sum_z_cong xs h = sum_z_cong_mem xs (λ x m. h x)
 
-  pub sum_z_≤ℤ : {f g : A → ℤ} (xs : List A) → ((x : A) → Memᴰ x xs → f x ≤ℤ g x) → sum_z f xs ≤ℤ sum_z g xs
-  sum_z_≤ℤ [] h = omega (arith, ints)
-  sum_z_≤ℤ (x ∷ xs) h =
-      let here = h x (Memᴰ.head refl) in
-      let rest = sum_z_≤ℤ xs (λ y m. h y (Memᴰ.tail m)) in
-      omega (arith, ints)
-
-  -- a sum of the terms that pass a test
-
-  pub sum_z_cond_true : (p : A → Bool) (f : A → ℤ) (xs : List A) → ((x : A) → Memᴰ x xs → p x ≡ true) → sum_z (λ x. cond (p x) (f x) (pos 0)) xs ≡ sum_z f xs
-  sum_z_cond_true p f xs h = sum_z_cong_mem xs (λ x m. ap (λ b. cond b (f x) (pos 0)) (h x m))
-
-  pub sum_z_cond_false : (p : A → Bool) (f : A → ℤ) (xs : List A) → ((x : A) → Memᴰ x xs → p x ≡ false) → sum_z (λ x. cond (p x) (f x) (pos 0)) xs ≡ pos 0
-  sum_z_cond_false p f xs h = sum_z_cong_mem xs (λ x m. ap (λ b. cond b (f x) (pos 0)) (h x m)) ∙ sum_z_zero xs
-
-  pub sum_z_split : (p : A → Bool) (f : A → ℤ) (xs : List A) → sum_z f xs ≡ sum_z (λ x. cond (p x) (f x) (pos 0)) xs +ℤ sum_z (λ x. cond (p x) (pos 0) (f x)) xs
-  sum_z_split p f xs =
-      sum_z_cong xs (λ x. split (p x) (f x)) ∙ sum_z_+ℤ (λ x. cond (p x) (f x) (pos 0)) (λ x. cond (p x) (pos 0) (f x)) xs
-    where
-      split : (b : Bool) (n : ℤ) → n ≡ cond b n (pos 0) +ℤ cond b (pos 0) n
-      split true n = sym (+ℤ_idr n)
-      split false n = sym (+ℤ_idl n)
-
+  -- one number for each element that passes a test
   pub sum_z_cond_const : (p : A → Bool) (c : ℤ) (xs : List A) → sum_z (λ x. cond (p x) c (pos 0)) xs ≡ pos (count p xs) *ℤ c
   sum_z_cond_const p c [] = omega (arith, ints)
   sum_z_cond_const p c (x ∷ xs) = ap (λ n. cond (p x) c (pos 0) +ℤ n) (sum_z_cond_const p c xs) ∙ one_more (p x) (count p xs)
     where
       one_more : (b : Bool) (n : ℕ) → cond b c (pos 0) +ℤ (pos n *ℤ c) ≡ pos (cond b (suc n) n) *ℤ c
-      one_more true n = omega (arith, ints, suc_ℤ-*ℤ (pos n) c)
-      one_more false n = +ℤ_idl (pos n *ℤ c)
+      one_more b n = grind arith
 
 module _ {A B : Type 0} where
   pub sum_z_swap : (f : A → B → ℤ) (xs : List A) (ys : List B) → sum_z (λ x. sum_z (λ y. f x y) ys) xs ≡ sum_z (λ y. sum_z (λ x. f x y) xs) ys

@@ -24,6 +24,8 @@ pub fn below_cap(n: u64) -> Option<u64>
     if n < CAP { Some(n) } else { None }
 }
 
+// The next two are not one function of the operation: what they share is `below_cap`, and the rest is one word.
+
 /// The product, or `None` where it reaches `CAP`.
 pub fn capped_product(a: u64, b: u64) -> Option<u64>
     ensures { result ≡ capped (a * b) }

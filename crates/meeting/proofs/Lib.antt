@@ -1,4 +1,3 @@
-pub mod Either
 pub mod Insides
-pub mod Near
 pub mod Sides
+pub mod Three

@@ -1,4 +1,3 @@
 pub mod Heights
 pub mod Meeting
 pub mod Rows
-pub mod Short

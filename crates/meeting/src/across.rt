@@ -1,51 +1,32 @@
 //! How far points lie across and along a direction.
-ghost use Rattle.std.specs.Prelude.{◌≡◌, ◌^◌, ◌≤◌, true};
-ghost use Rattle.rules.specs.Edges.{vector, across as across_of, along as along_of};
-ghost use Rattle.rules.specs.Limits.{near_point, modest};
-ghost use Rattle.meeting.specs.Short.{Short};
-ghost use Rattle.meeting.specs.Heights.{heights};
+ghost use Rattle.std.specs.Prelude.{◌≡◌, map};
+ghost use Rattle.rules.specs.Edges.{corners_in, across as across_of, along as along_of};
 
 use exact::product;
-use rules::{Corners, Point, Triangle, Vector};
-use triangle::difference;
-
-/// The way from one point to another.
-pub fn way(from: &Point, to: &Point) -> Vector
-    requires near_from { near_point from.now ≡ true }
-    requires near_to { near_point to.now ≡ true }
-    ensures is { result ≡ vector from.now to.now }
-    ensures short { Short result }
-{
-    difference(from, to)
-}
+use rules::limits::Within;
+use rules::{Point, Triangle, Vector};
 
 /// How far a point lies to the left of the line through 0 in the direction `d`, times the length of `d`.
-pub fn across(d: &Vector, r: &Point) -> i64
-    requires short { Short d.now }
-    requires near { near_point r.now ≡ true }
-    ensures { result ≡ across_of d.now r.now }
+pub fn across(d: &Within<Vector>, r: &Within<Point>) -> i64
+    ensures { result ≡ across_of d.now.value r.now.value }
 {
+    let (d, r) = (d.value, r.value);
     product(d.x, r.y) - product(d.y, r.x)
 }
 
+// Not one function with `across`: the two differ in their formula, not in a type or a constant.
+
 /// How far a point lies along that line, times the length of `d`.
-pub fn along(d: &Vector, r: &Point) -> i64
-    requires short { Short d.now }
-    requires near { near_point r.now ≡ true }
-    ensures { result ≡ along_of d.now r.now }
+pub fn along(d: &Within<Vector>, r: &Within<Point>) -> i64
+    ensures { result ≡ along_of d.now.value r.now.value }
 {
+    let (d, r) = (d.value, r.value);
     product(d.x, r.x) + product(d.y, r.y)
 }
 
 /// How far the corners of a triangle lie across a direction.
-pub fn corners_across(d: &Vector, t: &Triangle) -> Corners
-    requires short { Short d.now }
-    requires within { modest t.now ≡ true }
-    ensures { result ≡ heights d.now t.now }
+pub fn heights(d: &Within<Vector>, t: &Within<Triangle>) -> [i64; 3]
+    ensures { result ≡ map (across_of d.now.value) (corners_in t.now.value) }
 {
-    Corners {
-        a: across(d, &t.a),
-        b: across(d, &t.b),
-        c: across(d, &t.c),
-    }
+    t.corners().map(|r| across(d, &r))
 }

@@ -1,65 +1,79 @@
 //! Whether a direction parts two triangles.
-ghost use Rattle.std.specs.Prelude.{◌≡◌, true, ◌||◌, map};
-ghost use Rattle.exact.specs.Lists.{any};
-ghost use Rattle.rules.specs.Edges.{edges_in, direction};
+ghost use Rattle.std.specs.Prelude.{◌≡◌, true, ◌||◌, map, int_le};
+ghost use Rattle.exact.specs.Lists.{every, any};
+ghost use Rattle.rules.specs.Edges.{edges_in, direction as direction_of};
 ghost use Rattle.rules.specs.Lawful.{one_side, parted as parted_by};
-ghost use Rattle.rules.specs.Limits.{modest};
-ghost use Rattle.meeting.specs.Heights.{lowest, lower, axes};
-ghost use Rattle.meeting.specs.Short.{Short};
+ghost use Rattle.meeting.specs.Heights.{below, axes};
 
-use crate::across::{corners_across, way};
-use rules::{Corners, Triangle, Vector};
+use crate::across::heights;
+use rules::limits::Within;
+use rules::{Triangle, Vector};
+use triangle::direction;
 
-fn below_all(z: i64, v: &Corners) -> bool
-    ensures { result ≡ lowest z v.now }
+/// Whether no number of a row is below `y`.
+fn below_all(y: i64, v: &[i64]) -> bool
+    ensures { result ≡ every (int_le y) v.now }
 {
-    z <= v.a && z <= v.b && z <= v.c
+    v.iter().all(|z| y <= *z)
 }
 
-fn all_below(u: &Corners, v: &Corners) -> bool
-    ensures { result ≡ lower u.now v.now }
+/// Whether no number of the one row is above one of the other.
+fn below(u: &[i64], v: &[i64]) -> bool
+    ensures { result ≡ below u.now v.now }
 {
-    below_all(u.a, v) && below_all(u.b, v) && below_all(u.c, v)
+    u.iter().all(|y| below_all(*y, v))
 }
 
 /// Whether across the direction no corner of the one lies beyond a corner of the other.
-fn one_side(s: &Triangle, t: &Triangle, d: &Vector) -> bool
-    requires short { Short d.now }
-    requires within_s { modest s.now ≡ true }
-    requires within_t { modest t.now ≡ true }
-    ensures { result ≡ one_side s.now t.now d.now }
+fn one_side(s: &Within<Triangle>, t: &Within<Triangle>, d: &Within<Vector>) -> bool
+    ensures { result ≡ one_side s.now.value t.now.value d.now.value }
 {
-    let u = corners_across(d, s);
-    let v = corners_across(d, t);
-    all_below(&u, &v) || all_below(&v, &u)
+    let (u, v) = (heights(d, s), heights(d, t));
+    below(&u, &v) || below(&v, &u)
+}
+
+/// The two axes.
+fn axes() -> [Within<Vector>; 2]
+    ensures { map (λ d. d.value) result ≡ axes }
+{
+    [
+        Within::known(Vector { x: 1, y: 0 }),
+        Within::known(Vector { x: 0, y: 1 }),
+    ]
+}
+
+/// The directions of the edges of a triangle.
+fn directions(t: &Within<Triangle>) -> [Within<Vector>; 3]
+    ensures { map (λ d. d.value) result ≡ map direction_of (edges_in t.now.value) }
+{
+    t.edges().map(|e| direction(&e))
+}
+
+/// Whether one of the directions parts the two.
+fn one_parts(ds: &[Within<Vector>], s: &Within<Triangle>, t: &Within<Triangle>) -> bool
+    ensures { result ≡ any (one_side s.now.value t.now.value) (map (λ d. d.value) ds.now) }
+{
+    ds.iter().any(|d| one_side(s, t, d))
 }
 
 /// Whether an axis parts the two.
-fn axis_parts(s: &Triangle, t: &Triangle) -> bool
-    requires within_s { modest s.now ≡ true }
-    requires within_t { modest t.now ≡ true }
-    ensures { result ≡ any (one_side s.now t.now) axes }
+fn axis_parts(s: &Within<Triangle>, t: &Within<Triangle>) -> bool
+    ensures { result ≡ any (one_side s.now.value t.now.value) axes }
 {
-    one_side(s, t, &Vector { x: 1, y: 0 }) || one_side(s, t, &Vector { x: 0, y: 1 })
+    one_parts(&axes(), s, t)
 }
 
 /// Whether the direction of an edge of `r` parts the two.
-fn edge_parts(r: &Triangle, s: &Triangle, t: &Triangle) -> bool
-    requires within_r { modest r.now ≡ true }
-    requires within_s { modest s.now ≡ true }
-    requires within_t { modest t.now ≡ true }
-    ensures { result ≡ any (one_side s.now t.now) (map direction (edges_in r.now)) }
+fn edge_parts(r: &Within<Triangle>, s: &Within<Triangle>, t: &Within<Triangle>) -> bool
+    ensures { result ≡ any (one_side s.now.value t.now.value) (map direction_of (edges_in r.now.value)) }
 {
-    one_side(s, t, &way(&r.a, &r.b))
-        || one_side(s, t, &way(&r.b, &r.c))
-        || one_side(s, t, &way(&r.c, &r.a))
+    one_parts(&directions(r), s, t)
 }
 
 /// Whether an axis or the direction of an edge of one of them parts the two: they have no inner point in common.
-pub fn parted(s: &Triangle, t: &Triangle) -> bool
-    requires within_s { modest s.now ≡ true }
-    requires within_t { modest t.now ≡ true }
-    ensures { result ≡ parted_by s.now t.now }
+#[tactic(auto, unfolding(rules::specs::Lawful::parted))]
+pub fn parted(s: &Within<Triangle>, t: &Within<Triangle>) -> bool
+    ensures { result ≡ parted_by s.now.value t.now.value }
 {
     axis_parts(s, t) || edge_parts(s, s, t) || edge_parts(t, s, t)
 }

@@ -1,5 +1,6 @@
 //! Plates as lent numbers.
 #![tactic(auto)]
 
+pub mod parts;
 mod reads;
 pub mod view;

@@ -1,5 +1,5 @@
 //! What stands in a plate's numbers: triangles and outline edges.
-ghost use Rattle.std.specs.Prelude.{true, ◌≡◌, ◌+◌, ◌<◌, length};
+ghost use Rattle.std.specs.Prelude.{true, false, MatchOption, ◌≡◌, ◌+◌, ◌<◌, length};
 ghost use Rattle.rules.specs.Limits.{counts};
 ghost use Rattle.rules.specs.Numbers.{point_at, triangle_at, outline_at, natural as natural_of};
 
@@ -10,7 +10,7 @@ use rules::{Edge, MAX_COUNT, OutlineEdge, Point, Triangle};
 fn natural(z: i64) -> u64
     ensures { result ≡ natural_of z }
 {
-    if z < 0 { 0 } else { z as u64 }
+    u64::try_from(z).unwrap_or(0)
 }
 
 impl<'a> View<'a> {
@@ -18,14 +18,24 @@ impl<'a> View<'a> {
     pub fn fits(numbers: &[i64]) -> bool
         ensures { result ≡ counts numbers.now }
     {
-        if numbers.len() < 2 {
+        let &[triangles, edges, ..] = numbers else {
             return false;
-        }
-        let (triangles, edges) = (numbers[0], numbers[1]);
+        };
         if triangles < 1 || triangles > MAX_COUNT || edges < 0 || edges > MAX_COUNT {
             return false;
         }
         numbers.len() as i64 == 2 + 7 * (triangles + edges)
+    }
+
+    /// The view of numbers, or `None` where they do not fit.
+    pub fn read(numbers: &'a [i64]) -> Option<Self>
+        ensures { MatchOption result (counts numbers.now ≡ false) (λ view. (view.numbers.now ≡ numbers.now) × (counts numbers.now ≡ true)) }
+    {
+        if View::fits(numbers) {
+            Some(View::new(numbers))
+        } else {
+            None
+        }
     }
 
     /// The view of numbers that fit.
@@ -33,6 +43,7 @@ impl<'a> View<'a> {
         requires { counts numbers.now ≡ true }
         ensures { result.numbers.now ≡ numbers.now }
     {
+        // `as`, here and in `fits`: a `usize` has 64 bits, and the library has no `From` that says so.
         View {
             numbers,
             triangles: natural(numbers[0]) as usize,
@@ -40,6 +51,7 @@ impl<'a> View<'a> {
         }
     }
 
+    #[tactic(auto, unfolding(rules::specs::Numbers::point_at))]
     fn point(&self, at: usize) -> Point
         requires { at + 1 < length self.now.numbers.now }
         ensures { result ≡ point_at self.now.numbers.now at }
@@ -50,7 +62,10 @@ impl<'a> View<'a> {
         }
     }
 
+    // Not one function with `outline`: the two kinds of rows have other fields.
+
     /// Triangle `i`.
+    #[tactic(auto, unfolding(rules::specs::Numbers::triangle_at))]
     pub fn triangle(&self, i: usize) -> Triangle
         requires { i < self.now.triangles }
         ensures { result ≡ triangle_at self.now.numbers.now i }
@@ -65,6 +80,7 @@ impl<'a> View<'a> {
     }
 
     /// Outline edge `i`.
+    #[tactic(auto, unfolding(rules::specs::Numbers::outline_at))]
     pub fn outline(&self, i: usize) -> OutlineEdge
         requires { i < self.now.edges }
         ensures { result ≡ outline_at self.now.numbers.now i }
@@ -74,6 +90,7 @@ impl<'a> View<'a> {
             from: self.point(at + 1),
             to: self.point(at + 3),
         };
+        // The format marks a kind by a number; here it becomes a variant.
         if natural(self.numbers[at]) == 1 {
             OutlineEdge::Held {
                 edge,

@@ -5,6 +5,7 @@ ghost use Rattle.rules.specs.Numbers.{triangle_count, outline_count};
 /// A plate that is read out of the numbers that it was lent as.
 #[derive(Clone, Copy)]
 pub struct View<'a> {
+    // The counts stand beside the numbers, since calls lend a plate as one row; its first two numbers are these counts, signed.
     pub numbers: &'a [i64],
     /// how many triangles
     pub triangles: usize,

@@ -1,1 +1,2 @@
 pub mod Norms
+pub mod Within

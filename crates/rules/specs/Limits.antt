@@ -59,6 +59,10 @@ all_marked zs = every (marked zs) (range_with_len 0 (outline_count zs))
 abbrev pub near_corners : Corners → Bool
 near_corners u = near_value u.a && (near_value u.b && near_value u.c)
 
+-- as far as a point within the limits can be from another, in each coordinate
+abbrev pub short : Vector → Bool
+short d = near (2 ^ 16) d.x && near (2 ^ 16) d.y
+
 -- not too steep: what is squared stays below 2^30
 abbrev pub gentle : Vector → Bool
 gentle v = nat_lt (unsigned_abs v.x) (2 ^ 30) && nat_lt (unsigned_abs v.y) (2 ^ 30)

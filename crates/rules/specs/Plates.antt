@@ -1,6 +1,7 @@
 -- Plates, the points of a plate, and values at its points. Assumes nothing.
-use Rattle.std.specs.Prelude.{ℕ, Bool, cond, not, ◌&&◌, List, [], ◌∷◌, ◌++◌, length, ℤ, pos, fold, int_le, nat_lt, slice_index_or}
+use Rattle.std.specs.Prelude.{ℕ, Bool, cond, not, ◌&&◌, List, [], ◌∷◌, ◌++◌, length, ℤ, pos, fold, nat_lt, slice_index_or}
 use Rattle.std.specs.List.{prefix_len}
+use Rattle.std.specs.Ordering.{int_eq}
 use Rattle.rules.specs.declared.Point.{Point}
 use Rattle.rules.specs.declared.Triangle.{Triangle}
 use Rattle.rules.specs.declared.OutlineEdge.{OutlineEdge}
@@ -11,7 +12,7 @@ pub record Plate : Type 0 where
   pub outline : List OutlineEdge
 
 abbrev pub same : ℤ → ℤ → Bool
-same y z = int_le y z && int_le z y
+same = int_eq
 
 -- at one place
 abbrev pub same_point : Point → Point → Bool

@@ -1,11 +1,17 @@
 //! What the definitions speak of, and the limits.
 #![tactic(auto)]
 
+pub mod limits;
+mod parts;
+
 /// A plate has at most so many triangles, and at most so many outline edges.
 pub const MAX_COUNT: i64 = 65536;
 
 /// No coordinate is farther from 0.
 pub const MAX_COORDINATE: u64 = 32768;
+
+/// No way from one point to another is longer, in either coordinate.
+pub const MAX_STEP: u64 = 1 << 16;
 
 /// No value and no temperature is farther from 0.
 pub const MAX_VALUE: u64 = 1 << 20;
@@ -17,14 +23,14 @@ pub const CONDUCTIVITY_END: u64 = 4096;
 pub const GRADIENT_END: u64 = 1 << 30;
 
 /// A point of the plane, with whole coordinates.
-#[derive(Clone, Copy)]
+#[derive(Clone, Copy, PartialEq, Eq)]
 pub struct Point {
     pub x: i64,
     pub y: i64,
 }
 
 /// A directed edge.
-#[derive(Clone, Copy)]
+#[derive(Clone, Copy, PartialEq, Eq)]
 pub struct Edge {
     pub from: Point,
     pub to: Point,
@@ -53,6 +59,8 @@ pub struct Corners {
     pub b: i64,
     pub c: i64,
 }
+
+// Not the type of points, though the fields are the same: a way is no place, and other limits hold.
 
 /// A vector of the plane.
 #[derive(Clone, Copy)]

@@ -1,9 +1,9 @@
 -- Plates and values as rows of numbers: what the calls answer is what the promises speak of. Assumes nothing.
-use Rattle.std.proofs.Common.{◌≡◌, ℕ, ◌+◌, ◌<◌, Bool, true, false, ◌&&◌, eqb, ltb, List, [], length, ℤ, pos, sym, refl, ap, ◌∙◌, ⊎_elim, arith}
+use Rattle.std.proofs.Common.{◌≡◌, ℕ, ◌+◌, ◌<◌, Bool, true, eqb, ltb, List, [], length, ℤ, pos, sym, refl, ap, ◌∙◌, ⊎_elim, arith}
 use mathlib.Core.List.Memᴰ
 use mathlib.Core.List.{flat_map, Memᴰ}
 use lib.ListN.{length-map}
-use Rattle.std.proofs.lemmas.Bool.{and_parts, and_from, cases_Bool, both_ways, cond-true, cond-false, eqb-true, eq-eqb}
+use Rattle.std.proofs.lemmas.Bool.{and_from, cases_Bool, cond-true, cond-false}
 use Rattle.exact.proofs.Members.{member_flat_map}
 use Rattle.rules.specs.declared.Point.{Point}
 use Rattle.rules.specs.declared.Triangle.{Triangle}
@@ -13,7 +13,7 @@ use Rattle.rules.specs.Edges.{Corner, A, B, C, corner}
 use Rattle.rules.specs.Energy.{is_field, is_stream}
 use Rattle.rules.specs.Finer.{finer, finest, Carried, carried, parts}
 use Rattle.rules.specs.Lawful.{lawful}
-use Rattle.rules.specs.Limits.{counts, all_marked, modest_plate}
+use Rattle.rules.specs.Limits.{all_marked}
 use Rattle.rules.specs.Numbers.{plate_of}
 use Rattle.rules.specs.Parts.{Part, at_a, at_b, at_c, between, middle, twice, part}
 use Rattle.rules.specs.Plates.{Plate, Values, points_of, values_of}
@@ -30,24 +30,20 @@ use Rattle.theory.proofs.ReadBack.{read_as_written, all_marked_lem}
 
 -- ---- a verdict of 0
 passed : (n : ℕ) (test : Bool) → 0 < n → n unless test ≡ 0 → test ≡ true
-passed n true above h = refl
-passed n false above h = absurd (omega arith)
+passed n test above h = grind arith
 
 both_passed : (a b : ℕ) → a or_else b ≡ 0 → (a ≡ 0) × (b ≡ 0)
-both_passed a b h =
-    ⊎_elim (λ t. (eqb-true a 0 t, sym (cond-true (eqb a 0) b a t) ∙ h)) (λ f. absurd (both_ways (eqb a 0) f (eq-eqb a 0 (sym (cond-false (eqb a 0) b a f) ∙ h)))) (cases_Bool (eqb a 0))
+both_passed a b h = grind arith
 
 both_pass : (a b : ℕ) → a ≡ 0 → b ≡ 0 → a or_else b ≡ 0
-both_pass a b h k = ap (λ n. n or_else b) h ∙ k
+both_pass a b h k = grind arith
 
 passes : (n : ℕ) (test : Bool) → test ≡ true → n unless test ≡ 0
-passes n test h = ap (λ t. n unless t) h
+passes n test h = grind arith
 
 plate_passed : (zs : List ℤ) → plate_verdict zs ≡ 0 → lawful (plate_of zs) ≡ true
 unfolding plate_verdict
-plate_passed zs h =
-    let rest = (both_passed (1 unless counts zs && all_marked zs) _ h).1 in
-    passed 3 (lawful (plate_of zs)) (omega arith) (both_passed (2 unless modest_plate (plate_of zs)) _ rest).1
+plate_passed zs h = grind arith
 
 -- the verdict on values that are to pass a test
 judged : (n : ℕ) (test : Values → Plate → Bool) → List ℤ → List ℤ → ℕ
@@ -55,9 +51,7 @@ judged n test zs us = plate_verdict zs or_else n unless gives test (plate_of zs)
 
 judged_passed : (n : ℕ) (test : Values → Plate → Bool) → 0 < n → (zs us : List ℤ) → judged n test zs us ≡ 0 → (plate_verdict zs ≡ 0) × (test (values_of (plate_of zs) us) (plate_of zs) ≡ true)
 unfolding judged gives
-judged_passed n test above zs us h =
-    let both = both_passed (plate_verdict zs) (n unless gives test (plate_of zs) us) h in
-    (both.0, (and_parts (fills (plate_of zs) us) _ (passed n (gives test (plate_of zs) us) above both.1)).1)
+judged_passed n test above zs us h = grind arith
 
 -- ---- the two numbers
 pub answers_bracket : AnswersBracket
@@ -80,9 +74,7 @@ middle_of_part : (t : Triangle) (l : Corner) → (p : Part) × Memᴰ (part p t)
 middle_of_part t l = (between, Memᴰ.tail (Memᴰ.tail (Memᴰ.tail (Memᴰ.head refl))), same l)
   where
     same : (l : Corner) → mid t l ≡ corner (part between t) l
-    same A = refl
-    same B = refl
-    same C = refl
+    same l = grind arith
 
 middle_listed : (m : Plate) (t : Triangle) → Memᴰ t m.triangles → (i j : Corner) → Memᴰ (middle (corner t i) (corner t j)) (points_of (finer m).triangles)
 unfolding finer
@@ -123,26 +115,11 @@ marked_written zs = all_marked_lem (finer (plate_of zs))
 
 pub finer_taken : FinerTaken
 unfolding finer_verdict plate_verdict
-finer_taken zs room h =
-    let ns = finer_numbers zs in
-    let m = plate_of zs in
-    let first = both_passed (plate_verdict zs) _ h in
-    let second = both_passed (7 unless eqb room (length ns)) _ first.1 in
-    let third = both_passed (1 unless counts ns) (2 unless modest_plate (finer m)) second.1 in
-    let marked : all_marked ns ≡ true = marked_written zs in
-    let modest : modest_plate (plate_of ns) ≡ true = ap modest_plate (finer_read zs) ∙ passed 2 (modest_plate (finer m)) (omega arith) third.1 in
-    let ok : lawful (plate_of ns) ≡ true = ap lawful (finer_read zs) ∙ finer_lawful m (plate_passed zs first.0) in
-    both_pass (1 unless counts ns && all_marked ns) _ (passes 1 (counts ns && all_marked ns) (and_from (counts ns) (all_marked ns) (passed 1 (counts ns) (omega arith) third.0) marked))
-    (both_pass (2 unless modest_plate (plate_of ns)) _ (passes 2 (modest_plate (plate_of ns)) modest) (passes 3 (lawful (plate_of ns)) ok))
+finer_taken zs room h = grind (arith, both_passed, marked_written, finer_read, finer_lawful)
 
 carried_fill : (zs us : List ℤ) → all_near (carried_numbers zs us) ≡ true → fills (plate_of (finer_numbers zs)) (carried_numbers zs us) ≡ true
 unfolding fills carried_numbers
-carried_fill zs us near =
-    let m = plate_of zs in
-    let cs = carried_numbers zs us in
-    let long : length cs ≡ length (points_of (plate_of (finer_numbers zs)).triangles) =
-    length-map (points_of (finer m).triangles) (carried (values_of m us) m) ∙ ap (λ n. length (points_of n.triangles)) (sym (finer_read zs)) in
-    and_from (eqb (length cs) (length (points_of (plate_of (finer_numbers zs)).triangles))) (all_near cs) (eq-eqb _ _ long) near
+carried_fill zs us near = grind (arith, length-map, finer_read)
 
 -- what is carried from values that pass a test, and passes it there, is not refused there
 judged_there : (n : ℕ) (test : Values → Plate → Bool) (zs us : List ℤ) → 0 < n →

@@ -1,18 +1,16 @@
 -- No field spends less than any stream says: the law of one triangle, summed over a plate. Assumes nothing.
-use Rattle.std.proofs.Common.{◌≡◌, ◌<◌, true, List, [], ◌∷◌, ℤ, pos, ◌+ℤ◌, neg_ℤ, sym, ap, ◌∙◌, subst, ap₂, arith}
+use Rattle.std.proofs.Common.{◌≡◌, ◌<◌, true, List, [], ◌∷◌, ℤ, neg_ℤ, ap, ◌∙◌, subst, arith}
 use mathlib.Core.List.{Memᴰ}
 use lib.IntN.{+ℤ_idr}
 use Rattle.exact.specs.Fractions.{Fraction, whole, neg_f, ◌+F◌, sum_f, ◌≤F◌}
 use Rattle.exact.specs.Lists.{sum_z}
-use Rattle.exact.proofs.Certificates.{◌≈◌, prove≡}
 use Rattle.exact.proofs.Fractions.{+F_den, ≤F_move}
 use Rattle.exact.proofs.FractionSums.{sum_f_den, sum_f_+F, sum_f_whole, sum_f_≤F}
-use Rattle.exact.proofs.Ring.{var, con, ◌⊕◌, ◌⊗◌, ◌⊝◌, ⊖◌, solve}
+use Rattle.exact.proofs.Ring.{var, ◌⊕◌, ◌⊗◌, ◌⊝◌, ⊖◌, solve}
 use Rattle.exact.proofs.Sums.{sum_z_cong, sum_z_cong_mem, sum_z_flat_map, sum_z_map}
 use Rattle.rules.specs.declared.Edge.{Edge}
 use Rattle.rules.specs.declared.Triangle.{Triangle}
 use Rattle.rules.specs.declared.OutlineEdge.{OutlineEdge}
-use Rattle.rules.specs.declared.OutlineEdge.TheVariants.{Closed, Held}
 use Rattle.rules.specs.Bounds.{work, work_along}
 use Rattle.rules.specs.Edges.{edges_in}
 use Rattle.rules.specs.Energy.{is_field, is_stream, spent, drag, says}
@@ -31,20 +29,13 @@ exchange_turns : (a b c d : ℤ) → exchange b a d c ≡ neg_ℤ (exchange a b 
 exchange_turns a b c d =
     solve (a ∷ b ∷ c ∷ d ∷ []) ((var 1 ⊕ var 0) ⊗ (var 2 ⊝ var 3)) (⊖ ((var 0 ⊕ var 1) ⊗ (var 3 ⊝ var 2))) tt
 
--- none, where the stream does not change
-exchange_none : (a b c d : ℤ) → c ≡ d → exchange a b c d ≡ pos 0
-exchange_none a b c d e =
-    prove≡ (a ∷ b ∷ c ∷ d ∷ []) ((var 2 ≈ var 3) ∷ []) ((⊖ (var 0 ⊕ var 1)) ∷ []) ((var 0 ⊕ var 1) ⊗ (var 3 ⊝ var 2)) (con (pos 0)) tt (e, tt)
-
 module _ (u s : Values) where
   abbrev along : Edge → ℤ
   along e = exchange (u e.from) (u e.to) (s e.from) (s e.to)
 
   around_is : (t : Triangle) → sum_z along (edges_in t) ≡ around (corners_of u t) (corners_of s t)
   unfolding around
-  around_is t =
-      ap (λ z. exchange (u t.a) (u t.b) (s t.a) (s t.b) +ℤ (exchange (u t.b) (u t.c) (s t.b) (s t.c) +ℤ z))
-      (+ℤ_idr (exchange (u t.c) (u t.a) (s t.c) (s t.a)))
+  around_is t = grind (arith, +ℤ_idr)
 
   all_around : (ts : List Triangle) → sum_z along (edges ts) ≡ sum_z (λ t. around (corners_of u t) (corners_of s t)) ts
   unfolding edges
@@ -54,18 +45,14 @@ module _ (u s : Values) where
   module _ (m : Plate) (field : is_field u m ≡ true) (stream : is_stream s m ≡ true) where
     work_along_lem : (b : OutlineEdge) → Memᴰ b m.outline → along (edge_of b) ≡ work_along s b
     unfolding work_along
-    work_along_lem (Closed e) at = exchange_none (u e.from) (u e.to) (s e.from) (s e.to) (stream_at s m stream e at)
-    work_along_lem (Held e g h) at =
-        let ends = field_at u m field e g h at in
-        ap₂ (λ a b. exchange a b (s e.from) (s e.to)) ends.0 ends.1
+    work_along_lem b at = grind (arith, stream_at, field_at)
 
     outline_work : sum_z along (outline_edges m) ≡ work s m.outline
     unfolding outline_edges
     outline_work = sum_z_map along edge_of m.outline ∙ sum_z_cong_mem m.outline work_along_lem
 
     all_work : Facts m → sum_z (λ t. around (corners_of u t) (corners_of s t)) m.triangles ≡ work s m.outline
-    all_work known =
-        sym (all_around m.triangles) ∙ cancel along (λ e. exchange_turns (u e.from) (u e.to) (s e.from) (s e.to)) m known ∙ outline_work
+    all_work known = grind (arith, all_around, cancel, exchange_turns, outline_work)
 
 pub below : Below
 unfolding spent drag says

@@ -2,12 +2,12 @@
 use Rattle.std.proofs.Common.{◌≡◌, List, [], ◌∷◌, ℤ, pos, ◌+ℤ◌, ◌-ℤ◌, ◌*ℤ◌, ◌≤ℤ◌, ◌<ℤ◌, sym, refl, subst, arith}
 use borrow.Author.Differences.{ints}
 use Rattle.std.proofs.lemmas.Int.{by_lt_z}
-use Rattle.exact.proofs.Certificates.{◌≼◌, hyp, lit, ◌⊞◌, ◌⊠◌, prove≤}
+use Rattle.exact.proofs.Certificates.{◌≼◌, ◌≺◌, hyp, lit, ◌⊞◌, ◌⊠◌, prove<, prove⊥}
 use Rattle.exact.proofs.Mixes.{Mix, alone, mixed}
-use Rattle.exact.proofs.Order.{never, one_more, below, product_above}
+use Rattle.exact.proofs.Order.{product_above}
 use Rattle.exact.proofs.Ring.{Expr, var, con, ◌⊕◌, ◌⊗◌, ◌⊝◌, solve}
 use Rattle.rules.specs.Edges.{Corner, A, B, C, next}
-use Rattle.theory.proofs.Corners.{prev, near, thrice}
+use Rattle.theory.proofs.Corners.{prev, near}
 use Rattle.theory.proofs.Threes.{highest, sum}
 
 -- ---- a way from (x, y) by (x', y') to (x'', y'') that turns left: where it ends up to the left it does not fall first, nor go back to the right
@@ -21,23 +21,23 @@ module _ (x y x' y' x'' y'' : ℤ) (turn : pos 0 <ℤ (((x' -ℤ x) *ℤ (y'' -�
   no_fall : x' ≤ℤ x → x'' ≤ℤ x → y ≤ℤ y'' → y ≤ℤ y'
   no_fall h k m =
       by_lt_z y' y
-      (λ falls. absurd (never (prove≤ numbers ((con (pos 1) ≼ Turn) ∷ (var 2 ≼ var 0) ∷ (var 4 ≼ var 0) ∷ (var 1 ≼ var 5) ∷ ((con (pos 1) ⊕ var 3) ≼ var 1) ∷ [])
-      (hyp 0 ⊞ (hyp 1 ⊠ hyp 3) ⊞ ((hyp 4 ⊞ lit 1) ⊠ hyp 2)) (con (pos 1)) (con (pos 0)) tt (one_more turn, (h, (k, (m, (one_more falls, tt))))))))
+      (λ falls. absurd (prove⊥ numbers ((con (pos 0) ≺ Turn) ∷ (var 2 ≼ var 0) ∷ (var 4 ≼ var 0) ∷ (var 1 ≼ var 5) ∷ (var 3 ≺ var 1) ∷ [])
+      (hyp 0 ⊞ (hyp 1 ⊠ hyp 3) ⊞ ((hyp 4 ⊞ lit 1) ⊠ hyp 2)) tt (turn, (h, (k, (m, (falls, tt)))))))
       (λ rises. rises)
 
   no_return : x' ≤ℤ x → y ≤ℤ y' → y' ≤ℤ y'' → x'' ≤ℤ x'
   no_return h k m =
       by_lt_z x' x''
-      (λ returns. absurd (never (prove≤ numbers ((con (pos 1) ≼ Turn) ∷ (var 2 ≼ var 0) ∷ (var 1 ≼ var 3) ∷ (var 3 ≼ var 5) ∷ ((con (pos 1) ⊕ var 2) ≼ var 4) ∷ [])
-      (hyp 0 ⊞ (hyp 1 ⊠ hyp 3) ⊞ (hyp 2 ⊠ (hyp 4 ⊞ lit 1))) (con (pos 1)) (con (pos 0)) tt (one_more turn, (h, (k, (m, (one_more returns, tt))))))))
+      (λ returns. absurd (prove⊥ numbers ((con (pos 0) ≺ Turn) ∷ (var 2 ≼ var 0) ∷ (var 1 ≼ var 3) ∷ (var 3 ≼ var 5) ∷ (var 2 ≺ var 4) ∷ [])
+      (hyp 0 ⊞ (hyp 1 ⊠ hyp 3) ⊞ (hyp 2 ⊠ (hyp 4 ⊞ lit 1))) tt (turn, (h, (k, (m, (returns, tt)))))))
       (λ goes_on. goes_on)
 
 not_below : (x y x' y' : ℤ) → pos 0 <ℤ x → x' ≤ℤ pos 0 → y' ≤ℤ pos 0 → (y *ℤ x') <ℤ (x *ℤ y') → pos 0 <ℤ y
 not_below x y x' y' hx hx' hy' h =
     by_lt_z (pos 0) y (λ above. above)
-    (λ low. absurd (never (prove≤ (x ∷ y ∷ x' ∷ y' ∷ [])
-    ((con (pos 1) ≼ var 0) ∷ (var 2 ≼ con (pos 0)) ∷ (var 3 ≼ con (pos 0)) ∷ ((con (pos 1) ⊕ (var 1 ⊗ var 2)) ≼ (var 0 ⊗ var 3)) ∷ (var 1 ≼ con (pos 0)) ∷ [])
-    (hyp 3 ⊞ ((hyp 0 ⊞ lit 1) ⊠ hyp 2) ⊞ (hyp 4 ⊠ hyp 1)) (con (pos 1)) (con (pos 0)) tt (one_more hx, (hx', (hy', (one_more h, (low, tt))))))))
+    (λ low. absurd (prove⊥ (x ∷ y ∷ x' ∷ y' ∷ [])
+    ((con (pos 0) ≺ var 0) ∷ (var 2 ≼ con (pos 0)) ∷ (var 3 ≼ con (pos 0)) ∷ ((var 1 ⊗ var 2) ≺ (var 0 ⊗ var 3)) ∷ (var 1 ≼ con (pos 0)) ∷ [])
+    (hyp 3 ⊞ ((hyp 0 ⊞ lit 1) ⊠ hyp 2) ⊞ (hyp 4 ⊠ hyp 1)) tt (hx, (hx', (hy', (h, (low, tt)))))))
 
 -- ---- two rows. The corners (f i, g i) go against the clock; an edge that goes to the left and up has 0 on its left; and each row is
 -- above 0 somewhere. Then two corners can be mixed.
@@ -109,11 +109,11 @@ crossed : (a b c d e f : ℤ) → pos 0 <ℤ a → b ≤ℤ pos 0 → pos 0 <ℤ
     pos 0 <ℤ (((b *ℤ f) -ℤ (c *ℤ e)) +ℤ (((c *ℤ d) -ℤ (a *ℤ f)) +ℤ ((a *ℤ e) -ℤ (b *ℤ d))))
 crossed a b c d e f ha hb hc hd he hf h =
     let a' = var 0 in let b' = var 1 in let c' = var 2 in let d' = var 3 in let e' = var 4 in let f' = var 5 in
-    below (prove≤ (a ∷ b ∷ c ∷ d ∷ e ∷ f ∷ [])
-    ((con (pos 1) ≼ a') ∷ (b' ≼ con (pos 0)) ∷ (con (pos 1) ≼ c') ∷ (con (pos 1) ≼ d') ∷ (con (pos 1) ≼ e') ∷ (f' ≼ con (pos 0)) ∷ ((e' ⊗ c') ≼ (f' ⊗ b')) ∷ [])
+    prove< (a ∷ b ∷ c ∷ d ∷ e ∷ f ∷ [])
+    ((con (pos 0) ≺ a') ∷ (b' ≼ con (pos 0)) ∷ (con (pos 0) ≺ c') ∷ (con (pos 0) ≺ d') ∷ (con (pos 0) ≺ e') ∷ (f' ≼ con (pos 0)) ∷ ((e' ⊗ c') ≼ (f' ⊗ b')) ∷ [])
     (hyp 6 ⊞ ((hyp 2 ⊞ lit 1) ⊠ hyp 3) ⊞ hyp 2 ⊞ ((hyp 0 ⊞ lit 1) ⊠ hyp 5) ⊞ ((hyp 0 ⊞ lit 1) ⊠ (hyp 4 ⊞ lit 1)) ⊞ (hyp 1 ⊠ (hyp 3 ⊞ lit 1)))
-    (con (pos 1)) (((b' ⊗ f') ⊝ (c' ⊗ e')) ⊕ (((c' ⊗ d') ⊝ (a' ⊗ f')) ⊕ ((a' ⊗ e') ⊝ (b' ⊗ d')))) tt
-    (one_more ha, (hb, (one_more hc, (one_more hd, (one_more he, (hf, (h, tt))))))))
+    (con (pos 0)) (((b' ⊗ f') ⊝ (c' ⊗ e')) ⊕ (((c' ⊗ d') ⊝ (a' ⊗ f')) ⊕ ((a' ⊗ e') ⊝ (b' ⊗ d')))) tt
+    (ha, (hb, (hc, (hd, (he, (hf, (h, tt)))))))
 
 module _ (m : Corner → Corner → ℤ) where
   abbrev weight : Corner → ℤ
@@ -142,13 +142,7 @@ module _ (m : Corner → Corner → ℤ) where
       (weight, above, λ i. subst (λ z. pos 0 <ℤ z) (sym (rows_equal i)) (third (row A) _ _ _ (part A) (part B) (part C) rows_total))
     where
       above : (j : Corner) → pos 0 <ℤ weight j
-      above j =
-          let n = next j in
-          let p = prev j in
-          let nj = subst (λ i. pos 0 <ℤ m n i) (thrice j) (high' n) in
-          let pj = subst (λ i. pos 0 <ℤ m p i) (thrice j) (high p) in
-          let pn = subst (λ i. pos 0 <ℤ m p (next i)) (thrice j) (high' p) in
-          crossed (m n j) (m n n) (m n p) (m p j) (m p n) (m p p) nj (low n) (high n) pj pn (low p) (minor n)
+      above j = grind (arith, crossed)
 
       part : (j : Corner) → pos 0 <ℤ (sum (m j) *ℤ weight j)
       part j = product_above (sum (m j)) (weight j) (total j) (above j)

@@ -1,6 +1,6 @@
 -- What changes its sign with an edge's direction cancels inside a plate: of a sum along all edges of the triangles the outline's is left.
 -- Assumes nothing.
-use Rattle.std.proofs.Common.{◌≡◌, Bool, true, false, cond, List, ℤ, pos, ◌+ℤ◌, ◌*ℤ◌, neg_ℤ, sym, refl, ap, ◌∙◌, arith}
+use Rattle.std.proofs.Common.{◌≡◌, Bool, true, cond, List, ℤ, pos, ◌+ℤ◌, ◌*ℤ◌, neg_ℤ, sym, ap, ◌∙◌, arith}
 use mathlib.Core.List.{Memᴰ}
 use borrow.Author.Differences.{ints}
 use Rattle.exact.specs.Lists.{sum_z}
@@ -16,12 +16,7 @@ use Rattle.theory.proofs.Sameness.{edge_is, same_edge_sym, same_edge_back}
 
 -- what stands where a test passes
 where_passed : (b : Bool) (x y : ℤ) → (b ≡ true → x ≡ y) → cond b x (pos 0) ≡ cond b y (pos 0)
-where_passed true x y h = h refl
-where_passed false x y h = refl
-
-negative_inside : (b : Bool) (x : ℤ) → cond b (neg_ℤ x) (pos 0) ≡ neg_ℤ (cond b x (pos 0))
-negative_inside true x = refl
-negative_inside false x = refl
+where_passed b x y h = grind arith
 
 -- a number for each time that an edge stands among others
 times_is : (z : ℤ) (e : Edge) (es : List Edge) → sum_z (λ f. cond (same_edge e f) z (pos 0)) es ≡ pos (times e es) *ℤ z
@@ -34,9 +29,7 @@ module _ (X : Edge → ℤ) (turns : (e : Edge) → X (back e) ≡ neg_ℤ (X e)
   against e f = cond (same_edge (back e) f) (X e) (pos 0)
 
   against_turns : (e f : Edge) → against e f ≡ neg_ℤ (against f e)
-  against_turns e f =
-      where_passed (same_edge (back e) f) (X e) (neg_ℤ (X f)) (λ t. let is = ap X (sym (edge_is (back e) f t)) ∙ turns e in omega (arith, ints))
-      ∙ negative_inside (same_edge (back e) f) (X f) ∙ ap (λ b. neg_ℤ (cond b (X f) (pos 0))) (same_edge_back e f)
+  against_turns e f = grind (arith, edge_is, same_edge_back)
 
   -- over edges and their backs among them nothing is left
   inner : (es : List Edge) → sum_z (λ e. pos (times (back e) es) *ℤ X e) es ≡ pos 0

@@ -1,5 +1,6 @@
 -- Carried to the finer plate, fields stay fields and streams stay streams, and all sums become four times as large. Assumes nothing.
 use Rattle.std.proofs.Common.{◌≡◌, ℕ, ◌*◌, true, ◌&&◌, List, [], ◌∷◌, ℤ, pos, ◌+ℤ◌, ◌-ℤ◌, ◌*ℤ◌, nat_abs, sum_by, sym, refl, ap, ◌∙◌, subst, ap₂, arith}
+use mathlib.Core.List.Memᴰ
 use mathlib.Core.List.{flat_map, Memᴰ}
 use borrow.Author.Differences.{ints}
 use Rattle.exact.specs.Fractions.{Fraction, ratio, whole, ◌+F◌, neg_f, scaled, sum_f, ◌≈F◌}
@@ -8,7 +9,7 @@ use Rattle.exact.specs.Rounding.{up}
 use Rattle.exact.proofs.Certificates.{◌≈◌, prove≡}
 use Rattle.exact.proofs.Fractions.{≈F_of_≡, ≈F_+, ≤F_neg, scaled_+F, scaled_neg_f, four_times}
 use Rattle.exact.proofs.FractionSums.{sum_f_parts}
-use Rattle.exact.proofs.Members.{every_flat_map, flat_map_flat_map, member_map}
+use Rattle.exact.proofs.Members.{every_flat_map, flat_map_flat_map}
 use Rattle.exact.proofs.Ring.{var, con, ◌⊕◌, ◌⊗◌, ◌⊝◌, ⊖◌, solve}
 use Rattle.exact.proofs.Sums.{sum_z_cong, sum_z_parts, sum_by_is}
 use Rattle.rules.specs.declared.Edge.{Edge}
@@ -29,7 +30,7 @@ use Rattle.rules.specs.Triangles.{area2, turned, norm}
 use Rattle.theory.proofs.Facts.{Facts, facts, edge_out}
 use Rattle.theory.proofs.Known.{field_at, stream_at}
 use Rattle.theory.proofs.Sameness.{same_from}
-use Rattle.theory.proofs.Triangles.{parts_alike, part_k}
+use Rattle.theory.proofs.Triangles.{parts_alike}
 
 -- ---- the four parts of a triangle
 abbrev all_parts : List Part
@@ -59,12 +60,7 @@ module _ (u v : Values) (m : Plate) (carried : Carried u v m) where
   corners_carried t at between = corners_equal _ _ (carried.sums t at A B) (carried.sums t at B C) (carried.sums t at C A)
 
   alike : {X : Type 0} (f : Vector → ℤ → ℕ → X) (t : Triangle) → Memᴰ t m.triangles → (p : Part) → made f v (part p t) ≡ made f u t
-  alike f t at p =
-      let same = parts_alike p t (corners_of u t) in
-      let gradient = ap (turned (part p t)) (corners_carried t at p) ∙ same.0 in
-      let area = same.1 in
-      let k = part_k p t in
-      λ i. f (gradient i) (area i) (k i)
+  alike f t at p = grind (arith, parts_alike, corners_carried)
 
   -- sums of what is the same in each part
   fractions_carried : (f : Vector → ℤ → ℕ → Fraction) → sum_f (made f v) (flat_map parts m.triangles) ≈F scaled (pos 4) (sum_f (made f u) m.triangles)
@@ -117,7 +113,7 @@ module _ (u v : Values) (m : Plate) (carried : Carried u v m) (known : Facts m) 
   carried_along : (b : OutlineEdge) → Memᴰ b m.outline → CarriedAlong u v (edge_of b)
   unfolding outline_edges
   carried_along b at =
-      let found = edge_out m.triangles (edge_of b) (known.borders (edge_of b) (member_map edge_of m.outline b at)) in
+      let found = edge_out m.triangles (edge_of b) (known.borders (edge_of b) (Memᴰ.map edge_of at)) in
       let t = found.0 in
       let i = found.1 in
       subst (CarriedAlong u v) (sym found.3)
@@ -147,8 +143,7 @@ module _ (u v : Values) (m : Plate) (carried : Carried u v m) (known : Facts m) 
 
   field_carried : is_field u m ≡ true → is_field v (finer m) ≡ true
   unfolding is_field held finer
-  field_carried field =
-      ap (every (has v)) (flat_map_flat_map halves held_ends m.outline) ∙ every_flat_map (has v) (λ b. flat_map held_ends (halves b)) m.outline (temperatures field)
+  field_carried field = grind (arith, flat_map_flat_map, every_flat_map, temperatures)
 
   equal_ends : is_stream u m ≡ true → (b : OutlineEdge) → Memᴰ b m.outline → every (keeps v) (halves b) ≡ true
   unfolding keeps

@@ -1,18 +1,18 @@
 -- Whatever stands at the points of a lawful plate can be carried to the finer one: no place is given two values. Assumes nothing.
-use Rattle.std.proofs.Common.{◌≡◌, List, [], ◌∷◌, ℤ, ◌+ℤ◌, sym, refl, ap, ◌∙◌, ap₂, ⊎_elim}
+use Rattle.std.proofs.Common.{◌≡◌, List, [], ◌∷◌, map, ℤ, ◌+ℤ◌, sym, refl, ap, ◌∙◌, ap₂, ⊎_elim, arith}
+use mathlib.Core.List.Memᴰ
 use mathlib.Core.List.{flat_map, Memᴰ}
 use lib.IntN.{+ℤ_comm}
 use Rattle.std.proofs.lemmas.Bool.{cases_Bool, cond-true, cond-false}
 use Rattle.exact.proofs.Members.{flat_map_member, member_flat_map}
 use Rattle.rules.specs.declared.Point.{Point}
-use Rattle.rules.specs.declared.Edge.{Edge}
 use Rattle.rules.specs.declared.Triangle.{Triangle}
 use Rattle.rules.specs.Edges.{Corner, A, B, C, next, corner}
 use Rattle.rules.specs.Finer.{sum_at, sums_in, first_at, carried}
 use Rattle.rules.specs.Parts.{middle}
 use Rattle.rules.specs.Plates.{Plate, PointValue, Values, same_point}
 use Rattle.rules.specs.Promises.{CarriedThere}
-use Rattle.theory.proofs.Facts.{Facts, facts}
+use Rattle.theory.proofs.Facts.{Facts, facts, corners, index_in}
 use Rattle.theory.proofs.Halves.{twice_is}
 use Rattle.theory.proofs.Meetings.{In, SameSum, corner_or_middle, no_middle, same_middle}
 use Rattle.theory.proofs.Sameness.{point_is, same_point_from}
@@ -28,41 +28,31 @@ first_is (r ∷ rs) q v p (Memᴰ.tail n) e h =
 
 -- ---- what a triangle carries
 sum_out : (u : Values) (t : Triangle) (p : PointValue) → Memᴰ p (sums_in u t) → (i : Corner) × (j : Corner) × (p ≡ sum_at u t i j)
-sum_out u t p (Memᴰ.head e) = (A, A, e)
-sum_out u t p (Memᴰ.tail (Memᴰ.head e)) = (B, B, e)
-sum_out u t p (Memᴰ.tail (Memᴰ.tail (Memᴰ.head e))) = (C, C, e)
-sum_out u t p (Memᴰ.tail (Memᴰ.tail (Memᴰ.tail (Memᴰ.head e)))) = (A, B, e)
-sum_out u t p (Memᴰ.tail (Memᴰ.tail (Memᴰ.tail (Memᴰ.tail (Memᴰ.head e))))) = (B, C, e)
-sum_out u t p (Memᴰ.tail (Memᴰ.tail (Memᴰ.tail (Memᴰ.tail (Memᴰ.tail (Memᴰ.head e)))))) = (C, A, e)
-sum_out u t p (Memᴰ.tail (Memᴰ.tail (Memᴰ.tail (Memᴰ.tail (Memᴰ.tail (Memᴰ.tail n)))))) = elim n [ ]
+sum_out u t p m =
+    let at = Memᴰ.of_map (λ (c : Corner × Corner). sum_at u t c.0 c.1) ((A, A) ∷ (B, B) ∷ (C, C) ∷ (A, B) ∷ (B, C) ∷ (C, A) ∷ []) m in
+    (at.0.0, at.0.1, sym at.2)
 
 corner_sum : (u : Values) (t : Triangle) (i : Corner) → Memᴰ (sum_at u t i i) (sums_in u t)
-corner_sum u t A = Memᴰ.head refl
-corner_sum u t B = Memᴰ.tail (Memᴰ.head refl)
-corner_sum u t C = Memᴰ.tail (Memᴰ.tail (Memᴰ.head refl))
+corner_sum u t i = Memᴰ.append_left (map (λ j. sum_at u t j (next j)) corners) (Memᴰ.map (λ j. sum_at u t j j) (index_in i))
 
 middle_sum : (u : Values) (t : Triangle) (i : Corner) → Memᴰ (sum_at u t i (next i)) (sums_in u t)
-middle_sum u t A = Memᴰ.tail (Memᴰ.tail (Memᴰ.tail (Memᴰ.head refl)))
-middle_sum u t B = Memᴰ.tail (Memᴰ.tail (Memᴰ.tail (Memᴰ.tail (Memᴰ.head refl))))
-middle_sum u t C = Memᴰ.tail (Memᴰ.tail (Memᴰ.tail (Memᴰ.tail (Memᴰ.tail (Memᴰ.head refl)))))
+middle_sum u t i = Memᴰ.append_right (map (λ j. sum_at u t j j) corners) (Memᴰ.map (λ j. sum_at u t j (next j)) (index_in i))
 
 module _ (m : Plate) (known : Facts m) (u : Values) where
   -- two sums at one place are equal
   sums_agree : (s t : Triangle) (a b i j : Corner) → In m known s → In m known t → middle (corner s a) (corner s b) ≡ middle (corner t i) (corner t j) →
       u (corner s a) +ℤ u (corner s b) ≡ u (corner t i) +ℤ u (corner t j)
   sums_agree s t a b i j ns nt e =
-      ⊎_elim (λ c. ⊎_elim (λ d. corners c.0 d.0 c.1 d.1) (λ d. absurd (no_middle m known s t c.0 d.0 ns nt (sym c.1.place ∙ e ∙ d.1.place))) (corner_or_middle u t i j))
+      ⊎_elim (λ c. ⊎_elim (λ d. doubles c.0 d.0 c.1 d.1) (λ d. absurd (no_middle m known s t c.0 d.0 ns nt (sym c.1.place ∙ e ∙ d.1.place))) (corner_or_middle u t i j))
       (λ c. ⊎_elim (λ d. absurd (no_middle m known t s d.0 c.0 nt ns (sym d.1.place ∙ sym e ∙ c.1.place))) (λ d. middles c.0 d.0 c.1 d.1) (corner_or_middle u t i j)) (corner_or_middle u s a b)
     where
-      corners : (k l : Corner) → SameSum u s a b k k → SameSum u t i j l l → u (corner s a) +ℤ u (corner s b) ≡ u (corner t i) +ℤ u (corner t j)
-      corners k l x y =
+      doubles : (k l : Corner) → SameSum u s a b k k → SameSum u t i j l l → u (corner s a) +ℤ u (corner s b) ≡ u (corner t i) +ℤ u (corner t j)
+      doubles k l x y =
           let one = ap u (twice_is (corner s k) (corner t l) (sym x.place ∙ e ∙ y.place)) in
           x.sum ∙ ap₂ ◌+ℤ◌ one one ∙ sym y.sum
 
       middles : (k l : Corner) → SameSum u s a b k (next k) → SameSum u t i j l (next l) → u (corner s a) +ℤ u (corner s b) ≡ u (corner t i) +ℤ u (corner t j)
-      middles k l x y =
-          let along : Edge → ℤ = λ f. u f.from +ℤ u f.to in
-          x.sum ∙ ⊎_elim (λ f. sym (ap along f)) (λ f. sym (ap along f ∙ +ℤ_comm (u (corner s (next k))) (u (corner s k)))) (same_middle m known s t k l ns nt (sym x.place ∙ e ∙ y.place)) ∙ sym y.sum
+      middles k l x y = grind (arith, +ℤ_comm, same_middle)
 
   pub carried_sums : (t : Triangle) → Memᴰ t m.triangles → (i j : Corner) → carried u m (middle (corner t i) (corner t j)) ≡ u (corner t i) +ℤ u (corner t j)
   unfolding carried

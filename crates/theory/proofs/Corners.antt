@@ -5,8 +5,8 @@ use lib.IntN.{+ℤ_comm}
 use lib.Signed.{lt_z}
 use Rattle.std.proofs.lemmas.Int.{by_lt_z}
 use Rattle.std.proofs.lemmas.Bool.{and_parts}
-use Rattle.exact.proofs.Certificates.{◌≼◌, ◌≈◌, hyp, sqr, ◌⊞◌, ◌⊠◌, prove≤, prove≡}
-use Rattle.exact.proofs.Order.{factor_out, one_more, never}
+use Rattle.exact.proofs.Certificates.{◌≼◌, ◌≺◌, ◌≈◌, hyp, sqr, ◌⊞◌, ◌⊠◌, prove⊥, prove≡}
+use Rattle.exact.proofs.Order.{factor_out}
 use Rattle.exact.proofs.Ring.{Expr, con, ◌⊕◌, ◌⊗◌, ◌⊝◌, ⊖◌, solve}
 use Rattle.rules.specs.declared.Point.{Point}
 use Rattle.rules.specs.declared.Triangle.{Triangle}
@@ -20,9 +20,7 @@ abbrev pub prev : Corner → Corner
 prev i = next (next i)
 
 pub thrice : (i : Corner) → next (prev i) ≡ i
-thrice A = refl
-thrice B = refl
-thrice C = refl
+thrice i = grind arith
 
 -- a corner is another one, the next or the one before
 pub near : (P : Corner → Corner → Type 0) → ((j : Corner) → P j j) → ((j : Corner) → P j (next j)) → ((j : Corner) → P j (prev j)) → (j k : Corner) → P j k
@@ -91,7 +89,7 @@ none_below t ok =
 
 -- ---- no two corners are one, and no two middles
 which : (f : Corner → Point) → ((i : Corner) → f i ≡ f (next i) → ⊥) → (i j : Corner) → f i ≡ f j → i ≡ j
-which f differ = near (λ i j. f i ≡ f j → i ≡ j) (λ i. λ e. refl) (λ i. λ e. absurd (differ i e)) (λ i. λ e. absurd (differ (prev i) (sym e ∙ ap f (sym (thrice i)))))
+which f differ = grind (arith, thrice)
 
 no_way : (p r : Point) → across (vector p p) r ≡ pos 0
 unfolding across
@@ -112,16 +110,14 @@ corner_index t ok = which (corner t) (corners_differ t ok)
 
 pub middle_cancel : (p q r : Point) → middle p q ≡ middle q r → p ≡ r
 middle_cancel p q r e =
-    let x = ap (λ m. m.x) e in
-    let y = ap (λ m. m.y) e in
-    λ i. record { x = cancel p.x q.x r.x x i; y = cancel p.y q.y r.y y i }
-  where
-    cancel : (a b c : ℤ) → a +ℤ b ≡ b +ℤ c → a ≡ c
-    cancel a b c e = omega (arith, ints)
+    let ex = ap (λ m. m.x) e in
+    let ey = ap (λ m. m.y) e in
+    let x : p.x ≡ r.x = omega (arith, ints) in
+    let y : p.y ≡ r.y = omega (arith, ints) in
+    λ i. record { x = x i; y = y i }
 
 middles_differ : (t : Triangle) → proper t ≡ true → (i : Corner) → mid t i ≡ mid t (next i) → ⊥
-middles_differ t ok i e =
-    corners_differ t ok (prev i) (sym (middle_cancel (corner t i) (corner t (next i)) (corner t (prev i)) e) ∙ ap (corner t) (sym (thrice i)))
+middles_differ t ok i e = grind (arith, corners_differ, middle_cancel)
 
 pub middle_index : (t : Triangle) → proper t ≡ true → (i j : Corner) → mid t i ≡ mid t j → i ≡ j
 middle_index t ok = which (mid t) (middles_differ t ok)
@@ -132,8 +128,8 @@ unfolding area2
 spread p q r k above =
     let d = vector p q in
     by_lt_z (pos 0) (squared d) (λ straight. straight)
-    (λ none. absurd (never (prove≤ (numbers p q r) ((Along (To P Q) (To P Q) ≼ con (pos 0)) ∷ (con (pos 1) ≼ Area P Q R) ∷ [])
-    ((hyp 0 ⊠ (sqr (R.x ⊝ P.x) ⊞ sqr (R.y ⊝ P.y))) ⊞ (hyp 1 ⊠ hyp 1) ⊞ hyp 1 ⊞ hyp 1 ⊞ sqr (Along (To P Q) (To P R))) (con (pos 1)) (con (pos 0)) tt (none, (one_more above, tt)))))
+    (λ none. absurd (prove⊥ (numbers p q r) ((Along (To P Q) (To P Q) ≼ con (pos 0)) ∷ (con (pos 0) ≺ Area P Q R) ∷ [])
+    ((hyp 0 ⊠ (sqr (R.x ⊝ P.x) ⊞ sqr (R.y ⊝ P.y))) ⊞ (hyp 1 ⊠ hyp 1) ⊞ hyp 1 ⊞ hyp 1 ⊞ sqr (Along (To P Q) (To P R))) tt (none, (above, tt))))
 
 pub straight_edge : (t : Triangle) → proper t ≡ true → (i : Corner) → Straight (direction (edge t i))
 straight_edge t ok i = spread (corner t i) (corner t (next i)) (corner t (prev i)) t.k (subst (λ z. pos 0 <ℤ z) (sym (turned_area t i)) (area_above t ok))

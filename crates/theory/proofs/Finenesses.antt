@@ -29,7 +29,7 @@ finest_finest i zero m = ap (λ n. finest n m) (sym (add-zero i))
 finest_finest i (suc j) m = finest_finest i j (finer m) ∙ ap (λ n. finest n m) (sym (add-suc i j))
 
 finest_meet : (i j : ℕ) (m : Plate) → finest i (finest j m) ≡ finest j (finest i m)
-finest_meet i j m = let turned : i + j ≡ j + i = omega arith in finest_finest i j m ∙ ap (λ n. finest n m) turned ∙ sym (finest_finest j i m)
+finest_meet i j m = grind (arith, finest_finest)
 
 scale_more : (n : ℕ) (p : Fraction) → scaled (scale n) (scaled (pos 4) p) ≡ scaled (scale (suc n)) p
 scale_more n p = scaled_scaled (scale n) (pos 4) p ∙ ap (λ k. scaled (pos k) p) (sym (pow-suc 4 n))

@@ -3,10 +3,11 @@ use Rattle.std.proofs.Common.{◌≡◌, ℕ, ◌+◌, Bool, true, leb, ◌⊎�
 use mathlib.Core.List.Memᴰ
 use mathlib.Core.List.{flat_map, Memᴰ}
 use borrow.Author.Differences.{ints}
-use Rattle.std.proofs.lemmas.Bool.{and_parts, and_from, or_cases, or_left, or_right, leb-true}
+use Rattle.std.proofs.lemmas.Bool.{and_parts, and_from, or_cases, leb-true}
+use Rattle.std.proofs.lemmas.List.Folds.{list_all-append}
 use Rattle.exact.specs.Lists.{every}
-use Rattle.exact.proofs.Members.{every_out, every_in, every_++, any_out, any_in, map_member, member_map, flat_map_member}
-use Rattle.exact.proofs.Order.{pos_≤ℤ, *ℤ_≤ℤ}
+use Rattle.exact.proofs.Members.{every_out, every_in, any_out, any_in, flat_map_member}
+use Rattle.exact.proofs.Order.{*ℤ_≤ℤ}
 use Rattle.exact.proofs.Ring.{var, ◌⊕◌, ◌⊗◌, solve}
 use Rattle.rules.specs.declared.Triangle.{Triangle}
 use Rattle.rules.specs.declared.Vector.{Vector}
@@ -16,7 +17,7 @@ use Rattle.rules.specs.Lawful.{before, one_side, directions, parted, apart}
 use Rattle.rules.specs.Parts.{Part, at_a, at_b, at_c, between, part, middle}
 use Rattle.rules.specs.Triangles.{area2, proper}
 use Rattle.theory.proofs.Corners.{level, higher, area_above}
-use Rattle.theory.proofs.Facts.{edge_among, edge_index}
+use Rattle.theory.proofs.Facts.{corners, index_in, edge_among, edge_index}
 use Rattle.theory.proofs.Plane.{opposite, across_middle}
 use Rattle.theory.proofs.Separated.{Sides, before_in, before_out, sides_opposite}
 
@@ -50,18 +51,7 @@ other_of between B = C
 other_of between C = A
 
 pub corner_part : (p : Part) (t : Triangle) (i : Corner) → corner (part p t) i ≡ middle (corner t (one_of p i)) (corner t (other_of p i))
-corner_part at_a t A = refl
-corner_part at_a t B = refl
-corner_part at_a t C = refl
-corner_part at_b t A = refl
-corner_part at_b t B = refl
-corner_part at_b t C = refl
-corner_part at_c t A = refl
-corner_part at_c t B = refl
-corner_part at_c t C = refl
-corner_part between t A = refl
-corner_part between t B = refl
-corner_part between t C = refl
+corner_part p t i = grind arith
 
 pub across_part : (d : Vector) (p : Part) (t : Triangle) (i : Corner) → across d (corner (part p t) i) ≡ across d (corner t (one_of p i)) +ℤ across d (corner t (other_of p i))
 across_part d p t i = ap (across d) (corner_part p t i) ∙ across_middle d (corner t (one_of p i)) (corner t (other_of p i))
@@ -109,13 +99,10 @@ abbrev Kept : Vector → List Vector → Type 0
 Kept d ds = Memᴰ d ds ⊎ Memᴰ (opposite d) ds
 
 kept_in : (p : Part) (t : Triangle) (i : Corner) → Kept (direction (edge t i)) (map direction (edges_in (part p t)))
-kept_in p t i = by_sense p (Memᴰ.cast (sym (part_direction p t i)) (member_map direction (edges_in (part p t)) (edge (part p t) (turned_edge p i)) (edge_among (part p t) (turned_edge p i))))
+kept_in p t i = by_sense p (Memᴰ.cast (sym (part_direction p t i)) (Memᴰ.map direction (edge_among (part p t) (turned_edge p i))))
   where
     by_sense : (q : Part) → Memᴰ (sense q (direction (edge t i))) (map direction (edges_in (part p t))) → Kept (direction (edge t i)) (map direction (edges_in (part p t)))
-    by_sense at_a n = inl n
-    by_sense at_b n = inl n
-    by_sense at_c n = inl n
-    by_sense between n = inr n
+    by_sense q n = grind arith
 
 kept_through : (d : Vector) (es fs : List Vector) → ((c : Vector) → Memᴰ c es → Memᴰ c fs) → Kept d es → Kept d fs
 kept_through d es fs f k = ⊎_elim (λ n. inl (f d n)) (λ n. inr (f (opposite d) n)) k
@@ -135,14 +122,13 @@ directions_kept p q s t d (Memᴰ.tail (Memᴰ.tail n)) = ⊎_elim (of p s (left
     of : (o : Part) (r : Triangle) → ((c : Vector) → Memᴰ c (map direction (edges_in (part o r))) → Memᴰ c (directions (part p s) (part q t))) → Memᴰ d (map direction (edges_in r)) →
         Kept d (directions (part p s) (part q t))
     of o r into n =
-        let at = map_member direction (edges_in r) d n in
+        let at = Memᴰ.of_map direction (edges_in r) n in
         let which = edge_index r at.0 at.1 in
         kept_through d (map direction (edges_in (part o r))) (directions (part p s) (part q t)) into
-        (subst (λ c. Kept c (map direction (edges_in (part o r)))) (sym (at.2 ∙ ap direction which.1)) (kept_in o r which.0))
+        (subst (λ c. Kept c (map direction (edges_in (part o r)))) (sym (ap direction which.1) ∙ at.2) (kept_in o r which.0))
 
 one_side_lem : (s t : Triangle) (d : Vector) → Sides d s t ⊎ Sides d t s → one_side s t d ≡ true
-one_side_lem s t d (inl h) = or_left (before d s t) (before d t s) (before_in d s t h)
-one_side_lem s t d (inr h) = or_right (before d s t) (before d t s) (before_in d t s h)
+one_side_lem s t d h = grind (arith, before_in)
 
 -- a direction that has s on the one side and t on the other parts them, in whichever sense it is tried
 parted_by_lem : (s t : Triangle) (d : Vector) → Kept d (directions s t) → Sides d s t ⊎ Sides d t s → parted s t ≡ true
@@ -196,24 +182,16 @@ part_height t k p i =
         let both = solve (f ∷ a ∷ pos m ∷ pos n ∷ []) ((var 0 ⊕ (var 2 ⊗ var 1)) ⊕ (var 0 ⊕ (var 3 ⊗ var 1))) ((var 0 ⊕ var 0) ⊕ (var 1 ⊗ (var 2 ⊕ var 3))) tt in
         ap₂ ◌+ℤ◌ ex ey ∙ both
 
-abbrev corners : List Corner
-corners = A ∷ B ∷ C ∷ []
-
 -- part q lies below part p, as seen from edge k
 abbrev lower : Corner → Part → Part → Bool
 lower k q p = every (λ i. every (λ j. leb (height k q i) (height k p j)) corners) corners
-
-index_in : (i : Corner) → Memᴰ i corners
-index_in A = Memᴰ.head refl
-index_in B = Memᴰ.tail (Memᴰ.head refl)
-index_in C = Memᴰ.tail (Memᴰ.tail (Memᴰ.head refl))
 
 own_sides : (t : Triangle) → proper t ≡ true → (k : Corner) (q p : Part) → lower k q p ≡ true → Sides (direction (edge t k)) (part q t) (part p t)
 own_sides t ok k q p h i j =
     let test : Corner → Corner → Bool = λ i j. leb (height k q i) (height k p j) in
     let le = leb-true (height k q i) (height k p j) (every_out (test i) corners (every_out (λ i. every (test i) corners) corners h i (index_in i)) j (index_in j)) in
     let area = area_above t ok in
-    let scaled = *ℤ_≤ℤ (area2 t) (omega (arith, ints)) (pos_≤ℤ le) in
+    let scaled = *ℤ_≤ℤ (area2 t) {a = pos (height k q i)} {b = pos (height k p j)} (omega (arith, ints)) (omega (arith, ints)) in
     let left = part_height t k q i in
     let right = part_height t k p j in
     omega (arith, ints)
@@ -239,15 +217,11 @@ unfolding apart
 apart_++ [] ys hx hy h = hy
 apart_++ (x ∷ xs) ys hx hy h =
     let both = and_parts (every (parted x) xs) (apart xs) hx in
-    and_from (every (parted x) (xs ++ ys)) (apart (xs ++ ys)) (every_++ (parted x) xs ys both.0 (every_in (parted x) ys (λ y n. h x y (Memᴰ.head refl) n)))
+    and_from (every (parted x) (xs ++ ys)) (apart (xs ++ ys)) (list_all-append (parted x) xs ys ∙ and_from _ _ both.0 (every_in (parted x) ys (λ y n. h x y (Memᴰ.head refl) n)))
     (apart_++ xs ys both.1 hy (λ z y m n. h z y (Memᴰ.tail m) n))
 
 pub part_out : (t x : Triangle) → Memᴰ x (parts t) → (p : Part) × (x ≡ part p t)
-part_out t x (Memᴰ.head e) = (at_a, e)
-part_out t x (Memᴰ.tail (Memᴰ.head e)) = (at_b, e)
-part_out t x (Memᴰ.tail (Memᴰ.tail (Memᴰ.head e))) = (at_c, e)
-part_out t x (Memᴰ.tail (Memᴰ.tail (Memᴰ.tail (Memᴰ.head e)))) = (between, e)
-part_out t x (Memᴰ.tail (Memᴰ.tail (Memᴰ.tail (Memᴰ.tail n)))) = elim n [ ]
+part_out t x m = let at = Memᴰ.of_map (λ p. part p t) (at_a ∷ at_b ∷ at_c ∷ between ∷ []) m in (at.0, sym at.2)
 
 pub all_apart : (ts : List Triangle) → every proper ts ≡ true → apart ts ≡ true → apart (flat_map parts ts) ≡ true
 unfolding apart flat_map

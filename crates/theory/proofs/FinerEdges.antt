@@ -2,8 +2,9 @@
 use Rattle.std.proofs.Common.{◌≡◌, ◌+◌, Bool, true, false, eqb, List, [], ◌∷◌, map, sym, refl, ap, ◌∙◌, subst, arith}
 use mathlib.Core.List.{flat_map, Memᴰ}
 use Rattle.std.proofs.lemmas.Bool.{and_from, eq-eqb}
+use Rattle.std.proofs.lemmas.List.Folds.{list_all-map}
 use Rattle.exact.specs.Lists.{count, every}
-use Rattle.exact.proofs.Members.{one, every_in, every_flat_map, map_member, flat_map_member, flat_map_flat_map, count_ones, count_each, count_none, count_flat_map}
+use Rattle.exact.proofs.Members.{one, every_in, every_flat_map, flat_map_member, flat_map_flat_map, count_each, count_none, count_flat_map}
 use Rattle.rules.specs.declared.Point.{Point}
 use Rattle.rules.specs.declared.Edge.{Edge}
 use Rattle.rules.specs.declared.Triangle.{Triangle}
@@ -14,12 +15,12 @@ use Rattle.rules.specs.Finer.{parts, half1, half2, halves, finer}
 use Rattle.rules.specs.Lawful.{edges, edge_of, outline_edges, times, paired, outlined}
 use Rattle.rules.specs.Parts.{middle, twice}
 use Rattle.rules.specs.Plates.{Plate}
-use Rattle.theory.proofs.Corners.{prev, mid}
+use Rattle.theory.proofs.Corners.{mid}
 use Rattle.theory.proofs.Facts.{Facts, edge_in, edge_out}
-use Rattle.theory.proofs.Halves.{Side, begin, end, other, half, tip, tip_other, tip_back, back_half}
-use Rattle.theory.proofs.Links.{turns, links}
+use Rattle.theory.proofs.Halves.{Side, begin, end, other, half, tip, tip_other, back_half}
+use Rattle.theory.proofs.Links.{links}
 use Rattle.theory.proofs.Meetings.{link, no_middle}
-use Rattle.theory.proofs.Pieces.{Piece, halved, inner, outer, piece, pieces, part_edges, half_count, same_halves, half_differs, tips_differ}
+use Rattle.theory.proofs.Pieces.{Piece, piece, pieces, part_edges, half_count, same_halves, half_differs, tips_differ}
 
 -- ---- the edges of the finer plate, triangle by triangle and edge by edge
 pub fine_edges : (m : Plate) → edges (finer m).triangles ≡ flat_map (λ t. map (piece t) pieces) m.triangles
@@ -44,8 +45,7 @@ unfolding edges
 count_fine m p q h = ap (count p) (fine_edges m) ∙ count_flat_map p q (λ t. map (piece t) pieces) edges_in m.triangles h
 
 two : (s : Side) (p : Edge → Bool) (e : Edge) → count p (both_halves e) ≡ one (p (half s e)) + one (p (half (other s) e))
-two begin p e = let sum = count_ones p (both_halves e) in omega arith
-two end p e = let sum = count_ones p (both_halves e) in omega arith
+two s p e = grind arith
 
 module _ (m : Plate) (known : Facts m) where
   -- a corner of the plate
@@ -105,28 +105,15 @@ module _ (m : Plate) (known : Facts m) where
   paired_from e h k = and_from (eqb (times e (edges (finer m).triangles)) 1) _ (eq-eqb _ 1 h) (eq-eqb _ 1 k)
 
   link_paired : (s : Triangle) (i j : Corner) → Memᴰ s m.triangles → (i ≡ j → ⊥) → paired (finer m) (link s i j) ≡ true
-  link_paired s i j ns differ =
-      let there = times_link s j i ns (λ e. differ (sym e)) in
-      let none = times_link_outline s i j ns in
-      paired_from (link s i j) (times_link s i j ns differ) (omega arith)
+  link_paired s i j ns differ = grind (arith, times_link, times_link_outline, paired_from)
 
   piece_paired : (s : Triangle) → Memᴰ s m.triangles → (p : Piece) → paired (finer m) (piece s p) ≡ true
-  piece_paired s ns (halved side i) =
-      let e = edge s i in
-      let es = edges (finer m).triangles in
-      let before = known.is_paired e (edge_in m.triangles s i ns) in
-      let named = end_named side s i ns in
-      let there : times (back (half side e)) es ≡ times (back e) (edges m.triangles) =
-      ap (λ f. times f es) (back_half side e) ∙ times_half (other side) (back e) (subst Named (sym (tip_back side e)) named) in
-      let here = times_half_outline side e named in
-      paired_from (half side e) (times_half side e named ∙ known.once e (edge_in m.triangles s i ns)) (omega arith)
-  piece_paired s ns (inner k) = link_paired s (next k) (prev k) ns (turns (next k))
-  piece_paired s ns (outer k) = link_paired s (prev k) (next k) ns (λ e. turns (next k) (sym e))
+  piece_paired s ns p = grind (arith, edge_in, back_half, times_half, times_half_outline, paired_from, link_paired)
 
   pub all_paired : every (paired (finer m)) (edges (finer m).triangles) ≡ true
   all_paired =
       ap (every (paired (finer m))) (fine_edges m) ∙ every_flat_map (paired (finer m)) (λ t. map (piece t) pieces) m.triangles (λ t nt.
-      every_in (paired (finer m)) (map (piece t) pieces) (λ e ne. let at = map_member (piece t) pieces e ne in ap (paired (finer m)) at.2 ∙ piece_paired t nt at.0))
+      list_all-map (paired (finer m)) (piece t) pieces ∙ every_in (λ p. paired (finer m) (piece t p)) pieces (λ p np. piece_paired t nt p))
 
   outlined_from : (e : Edge) → times e (edges (finer m).triangles) ≡ 1 → times e (outline_edges (finer m)) ≡ 1 → outlined (finer m) e ≡ true
   unfolding outlined

@@ -4,13 +4,14 @@ use mathlib.Core.List.Memᴰ
 use mathlib.Core.List.{flat_map, Memᴰ}
 use lib.Signed.{lt_z}
 use Rattle.std.proofs.lemmas.Bool.{and_from, cases_Bool, or_left, or_right, not_from_false}
+use Rattle.std.proofs.lemmas.List.Folds.{list_all-map}
 use Rattle.exact.specs.Lists.{every}
-use Rattle.exact.proofs.Members.{every_in, every_flat_map, map_member, member_map, flat_map_member, member_flat_map, count_some}
+use Rattle.exact.proofs.Members.{every_in, every_flat_map, flat_map_member, member_flat_map}
 use Rattle.rules.specs.declared.Edge.{Edge}
 use Rattle.rules.specs.declared.Triangle.{Triangle}
 use Rattle.rules.specs.declared.OutlineEdge.{OutlineEdge}
 use Rattle.rules.specs.declared.OutlineEdge.TheVariants.{Closed, Held}
-use Rattle.rules.specs.Edges.{Corner, next, corner, corners_in, back, same_edge, inside}
+use Rattle.rules.specs.Edges.{Corner, next, corner, corners_in, back, inside}
 use Rattle.rules.specs.Finer.{parts, half1, half2, halves, finer}
 use Rattle.rules.specs.Lawful.{edges, edge_of, outline_edges, times, paired, outlined, held_ends, held, agree, one_temperature, apart, clear, all_clear, lawful}
 use Rattle.rules.specs.Parts.{Part, part, middle, twice}
@@ -21,12 +22,11 @@ use Rattle.theory.proofs.Corners.{prev, mid}
 use Rattle.theory.proofs.Facts.{Facts, facts, edge_out, corner_out}
 use Rattle.theory.proofs.FinerApart.{one_of, other_of, corner_part, part_out, all_apart}
 use Rattle.theory.proofs.FinerEdges.{fine_edges, all_paired, all_outlined}
-use Rattle.theory.proofs.Halves.{twice_is}
 use Rattle.theory.proofs.Insides.{is_outside, inside_back}
 use Rattle.theory.proofs.Meetings.{no_middle, same_middle, half_clear, link_clear, link}
 use Rattle.theory.proofs.Pieces.{Piece, halved, inner, outer, piece, pieces}
 use Rattle.theory.proofs.Plane.{Inside}
-use Rattle.theory.proofs.Sameness.{point_is, same_from, same_edge_from, same_edge_refl}
+use Rattle.theory.proofs.Sameness.{point_is, same_from}
 use Rattle.theory.proofs.Triangles.{parts_alike, part_k}
 
 -- ---- triangles
@@ -61,10 +61,10 @@ module _ (m : Plate) (known : Facts m) where
   all_clear_lem =
       let ts = flat_map parts m.triangles in
       let test : Edge → Bool = λ e. every (clear e) ts in
-      ap (every test) (fine_edges m) ∙ every_flat_map test (λ t. map (piece t) pieces) m.triangles (λ s ns. every_in test (map (piece s) pieces) (λ e ne.
-      let p = map_member (piece s) pieces e ne in
-      every_flat_map (clear e) parts m.triangles (λ t nt. every_in (clear e) (parts t) (λ x nx.
-      let q = part_out t x nx in ap₂ clear p.2 q.1 ∙ part_clear s t ns nt p.0 q.0))))
+      ap (every test) (fine_edges m) ∙ every_flat_map test (λ t. map (piece t) pieces) m.triangles (λ s ns.
+      list_all-map test (piece s) pieces ∙ every_in (λ p. test (piece s p)) pieces (λ p np.
+      every_flat_map (clear (piece s p)) parts m.triangles (λ t nt. every_in (clear (piece s p)) (parts t) (λ x nx.
+      let q = part_out t x nx in ap (clear (piece s p)) q.1 ∙ part_clear s t ns nt p q.0))))
 
   -- ---- temperatures at the ends of halves: doubled from an end, or the sum at a middle
   Doubled : PointValue → Type 0
@@ -79,7 +79,7 @@ module _ (m : Plate) (known : Facts m) where
 
   edge_there : (e : Edge) (g h : ℤ) → Memᴰ (Held e g h) m.outline → Memᴰ e (outline_edges m)
   unfolding outline_edges
-  edge_there e g h nb = member_map edge_of m.outline (Held e g h) nb
+  edge_there e g h nb = Memᴰ.map edge_of nb
 
   half_ends : (e : Edge) (g h : ℤ) → Memᴰ (Held e g h) m.outline → (b : OutlineEdge) → Memᴰ b (halves (Held e g h)) → (p : PointValue) → Memᴰ p (held_ends b) → Doubled p ⊎ Middle p
   unfolding Doubled Middle
@@ -128,27 +128,16 @@ module _ (m : Plate) (known : Facts m) where
   -- an outline edge's back is in no triangle
   no_back : (e f : Edge) → Memᴰ e (outline_edges m) → Memᴰ f (outline_edges m) → f ≡ back e → ⊥
   unfolding times
-  no_back e f ne nf is =
-      let es = edges m.triangles in
-      let sum = known.is_paired e (known.borders e ne) in
-      let there = count_some (same_edge (back e)) es f (known.borders f nf) (same_edge_from (back e) f (sym is)) in
-      let here = count_some (same_edge e) (outline_edges m) e ne (same_edge_refl e) in
-      omega arith
+  no_back e f ne nf is = grind arith
 
   -- two ends, or two middles, at one place have one temperature; an end and a middle are never at one place
   ends_agree : (p q : PointValue) → Doubled p → Doubled q → p.at ≡ q.at → p.value ≡ q.value
   unfolding Doubled
-  ends_agree p q (x, nx, is) (y, ny, is') e =
-      let one = known.one_temperature_lem x y nx ny (twice_is x.at y.at (sym (ap (λ r. r.at) is) ∙ e ∙ ap (λ r. r.at) is')) in
-      ap (λ r. r.value) is ∙ ap₂ ◌+ℤ◌ one one ∙ sym (ap (λ r. r.value) is')
+  ends_agree p q dp dq e = grind arith
 
   end_not_middle : (p q : PointValue) → Doubled p → Middle q → p.at ≡ q.at → ⊥
   unfolding Doubled Middle
-  end_not_middle p q (x, nx, is) (f, g, h, nb, is') e =
-      let s = end_corner x nx in
-      let t = edge_out m.triangles f (known.borders f (edge_there f g h nb)) in
-      no_middle m known s.0 t.0 s.1 t.1 s.2 t.2
-      (ap twice (sym s.3) ∙ sym (ap (λ r. r.at) is) ∙ e ∙ ap (λ r. r.at) is' ∙ ap (λ d. middle d.from d.to) t.3)
+  end_not_middle p q dp mq e = grind (arith, end_corner, edge_out, edge_there, no_middle)
 
   middles_agree : (p q : PointValue) → Middle p → Middle q → p.at ≡ q.at → p.value ≡ q.value
   unfolding Middle
@@ -169,9 +158,7 @@ module _ (m : Plate) (known : Facts m) where
           ap (λ r. r.value) is ∙ ap₂ ◌+ℤ◌ from to ∙ sym (ap (λ r. r.value) is')
 
   held_agree : (p q : PointValue) → Memᴰ p (held (finer m)) → Memᴰ q (held (finer m)) → p.at ≡ q.at → p.value ≡ q.value
-  held_agree p q np nq e =
-      ⊎_elim (λ dp. ⊎_elim (λ dq. ends_agree p q dp dq e) (λ mq. absurd (end_not_middle p q dp mq e)) (held_out q nq))
-      (λ mp. ⊎_elim (λ dq. absurd (end_not_middle q p dq mp (sym e))) (λ mq. middles_agree p q mp mq e) (held_out q nq)) (held_out p np)
+  held_agree p q np nq e = grind (arith, ends_agree, end_not_middle, held_out, middles_agree)
 
   one_temperature_there : one_temperature (held (finer m)) ≡ true
   unfolding one_temperature agree

@@ -1,10 +1,10 @@
 -- The group of a point is all points that closed edges join to it: walking along the outline once for each of its edges is enough. Assumes nothing.
-use Rattle.std.proofs.Common.{◌≡◌, ℕ, ◌+◌, ◌<◌, ◌≤◌, Bool, true, false, cond, not, ◌&&◌, ◌||◌, ◌⊎◌, List, [], ◌∷◌, ◌++◌, length, ◌+ℤ◌, fold, sym, refl, ap, ◌∙◌, subst, ap₂, inl, inr, ⊎_elim, arith}
+use Rattle.std.proofs.Common.{◌≡◌, ℕ, ◌+◌, ◌<◌, ◌≤◌, Bool, true, ◌&&◌, ◌||◌, ◌⊎◌, List, [], ◌∷◌, ◌++◌, length, fold, sym, refl, ap, ◌∙◌, subst, inl, inr, ⊎_elim, arith}
 use mathlib.Core.List.Memᴰ
 use mathlib.Core.List.{Memᴰ}
-use Rattle.std.proofs.lemmas.Bool.{and_parts, and_from, cases_Bool, cond_both, cond-true, cond-false, or_left, or_right, or_from, or_cases, true≢false}
+use Rattle.std.proofs.lemmas.Bool.{cond_both, cond-true}
 use Rattle.exact.specs.Lists.{count}
-use Rattle.exact.proofs.Members.{every_out, every_in, every_or, count_one_more, count_all}
+use Rattle.exact.proofs.Members.{every_out, every_in, count_one_more, count_all}
 use Rattle.rules.specs.declared.Point.{Point}
 use Rattle.rules.specs.declared.Edge.{Edge}
 use Rattle.rules.specs.declared.OutlineEdge.{OutlineEdge}
@@ -14,7 +14,7 @@ use Rattle.rules.specs.Plates.{Plate, Values, same, among, noted}
 use Rattle.rules.specs.Promises.{Joined, GroupsJoined, GroupsKept, GroupsAlike}
 use Rattle.rules.specs.Settled.{joined, group, changed_all}
 use Rattle.theory.proofs.Points.{among_out, among_in, noted_keeps, noted_there}
-use Rattle.theory.proofs.Sameness.{same_refl, same_is, same_from}
+use Rattle.theory.proofs.Sameness.{same_is, same_from}
 
 -- ---- one pass along the outline
 joined_keeps : (ps : List Point) (b : OutlineEdge) (q : Point) → Memᴰ q ps → Memᴰ q (joined ps b)
@@ -33,13 +33,10 @@ Both e ps = Memᴰ e.from ps × Memᴰ e.to ps
 
 joins : (ps : List Point) (e : Edge) → (among e.from ps || among e.to ps) ≡ true → Both e (joined ps (Closed e))
 unfolding joined
-joins ps e t =
-    subst (Both e) (sym (cond-true (among e.from ps || among e.to ps) (noted (noted ps e.from) e.to) ps t))
-    (noted_keeps e.from e.to _ (noted_there e.from ps), noted_there e.to _)
+joins ps e t = grind (arith, noted_keeps, noted_there)
 
 touched : (ps : List Point) (e : Edge) → Memᴰ e.from ps ⊎ Memᴰ e.to ps → (among e.from ps || among e.to ps) ≡ true
-touched ps e (inl n) = or_left (among e.from ps) (among e.to ps) (among_in e.from ps n)
-touched ps e (inr n) = or_right (among e.from ps) (among e.to ps) (among_in e.to ps n)
+touched ps e at = grind (arith, among_in)
 
 pass_joins : (bs : List OutlineEdge) (ps : List Point) (e : Edge) → Memᴰ (Closed e) bs → Memᴰ e.from ps ⊎ Memᴰ e.to ps → Both e (fold joined ps bs)
 pass_joins [] ps e n at = elim n [ ]
@@ -60,16 +57,7 @@ noted_same q ps t = cond-true (among q ps) ps _ t
 
 joined_same : (bs : List OutlineEdge) (ps : List Point) → Balanced bs ps → (b : OutlineEdge) → Memᴰ b bs → joined ps b ≡ ps
 unfolding joined Balanced
-joined_same bs ps even (Held e g h) n = refl
-joined_same bs ps even (Closed e) n = ⊎_elim here elsewhere (cases_Bool (among e.from ps))
-  where
-    here : among e.from ps ≡ true → joined ps (Closed e) ≡ ps
-    here t =
-        cond-true (among e.from ps || among e.to ps) _ ps (or_left (among e.from ps) (among e.to ps) t) ∙ ap (λ qs. noted qs e.to) (noted_same e.from ps t)
-        ∙ noted_same e.to ps (sym (even e n) ∙ t)
-
-    elsewhere : among e.from ps ≡ false → joined ps (Closed e) ≡ ps
-    elsewhere f = cond-false (among e.from ps || among e.to ps) _ ps (or_from (among e.from ps) (among e.to ps) f (sym (even e n) ∙ f))
+joined_same bs ps even b n = grind (arith, noted_same)
 
 pass_same : (all bs : List OutlineEdge) (ps : List Point) → Balanced all ps → ((b : OutlineEdge) → Memᴰ b bs → Memᴰ b all) → fold joined ps bs ≡ ps
 pass_same all [] ps even sub = refl
@@ -81,27 +69,6 @@ abbrev both_in : List Point → OutlineEdge → Bool
 both_in ps (Closed e) = among e.from ps && among e.to ps
 both_in ps (Held e g h) = true
 
--- both ends, or none
-abbrev level : Bool → Bool → Bool
-level true c = c
-level false c = not c
-
-abbrev is_level : List Point → OutlineEdge → Bool
-is_level ps (Closed e) = level (among e.from ps) (among e.to ps)
-is_level ps (Held e g h) = true
-
-level_out : (b c : Bool) → level b c ≡ true → b ≡ c
-level_out true true h = refl
-level_out true false h = sym h
-level_out false true h = h
-level_out false false h = refl
-
-level_fails : (b c : Bool) → level b c ≡ false → ((b ≡ true) ⊎ (c ≡ true)) × ((b && c) ≡ false)
-level_fails true true h = absurd (true≢false h)
-level_fails true false h = (inl refl, refl)
-level_fails false true h = (inr refl, refl)
-level_fails false false h = absurd (true≢false h)
-
 module _ (bs : List OutlineEdge) where
   pass : List Point → List Point
   pass ps = fold joined ps bs
@@ -109,27 +76,9 @@ module _ (bs : List OutlineEdge) where
   full : List Point → ℕ
   full ps = count (both_in ps) bs
 
-  both_kept : (ps : List Point) (b : OutlineEdge) → both_in ps b ≡ true → both_in (pass ps) b ≡ true
-  unfolding pass
-  both_kept ps (Held e g h) t = refl
-  both_kept ps (Closed e) t =
-      let both = and_parts (among e.from ps) (among e.to ps) t in
-      let kept : (q : Point) → among q ps ≡ true → among q (fold joined ps bs) ≡ true = λ q h. among_in q _ (pass_keeps bs ps q (among_out q ps h)) in
-      and_from (among e.from (fold joined ps bs)) _ (kept e.from both.0) (kept e.to both.1)
-
   balanced_or_more : (ps : List Point) → Balanced bs ps ⊎ (full ps < full (pass ps))
   unfolding full Balanced pass
-  balanced_or_more ps =
-      ⊎_elim (λ t. inl (λ e n. level_out (among e.from ps) (among e.to ps) (every_out (is_level ps) bs t (Closed e) n)))
-      (λ found. inr (more found.0 found.1 found.2)) (every_or (is_level ps) bs)
-    where
-      more : (b : OutlineEdge) → Memᴰ b bs → is_level ps b ≡ false → count (both_in ps) bs < count (both_in (fold joined ps bs)) bs
-      more (Held e g h) n f = absurd (true≢false f)
-      more (Closed e) n f =
-          let uneven = level_fails (among e.from ps) (among e.to ps) f in
-          let both = pass_joins bs ps e n (⊎_elim (λ t. inl (among_out e.from ps t)) (λ t. inr (among_out e.to ps t)) uneven.0) in
-          count_one_more (both_in ps) (both_in (fold joined ps bs)) bs (λ b m t. both_kept ps b t) (Closed e) n uneven.1
-          (and_from (among e.from (fold joined ps bs)) _ (among_in e.from _ both.0) (among_in e.to _ both.1))
+  balanced_or_more ps = grind (arith, pass_joins, among_out, count_one_more, among_in)
 
   -- a pass for each element of a list
   passes : List Point → List OutlineEdge → List Point
@@ -152,9 +101,7 @@ module _ (bs : List OutlineEdge) where
   balanced ps = ⊎_elim (λ even. even) filled (enough ps bs)
     where
       filled : count (both_in ps) bs + length bs ≤ count (both_in (passes ps bs)) bs → (e : Edge) → Memᴰ (Closed e) bs → among e.from (passes ps bs) ≡ among e.to (passes ps bs)
-      filled h e n =
-          let both = and_parts (among e.from (passes ps bs)) (among e.to (passes ps bs)) (count_all (both_in (passes ps bs)) bs (omega arith) (Closed e) n) in
-          both.0 ∙ sym both.1
+      filled h e n = grind (arith, count_all)
 
 -- ---- what marks a point, and is the same at both ends of closed edges, marks all points that passes add
 module _ (marks : Point → Bool) where
@@ -167,14 +114,7 @@ module _ (marks : Point → Bool) where
 
   marked_joined : (ps : List Point) (b : OutlineEdge) → ((e : Edge) → b ≡ Closed e → marks e.from ≡ marks e.to) → Marked ps → Marked (joined ps b)
   unfolding joined
-  marked_joined ps (Held e g h) even all = all
-  marked_joined ps (Closed e) even all =
-      cond_both (among e.from ps || among e.to ps) (noted (noted ps e.from) e.to) ps Marked
-      (λ t. let ends = either (or_cases (among e.from ps) (among e.to ps) t) in marked_noted (noted ps e.from) e.to (marked_noted ps e.from all ends.0) ends.1) (λ f. all)
-    where
-      either : (among e.from ps ≡ true) ⊎ (among e.to ps ≡ true) → (marks e.from ≡ true) × (marks e.to ≡ true)
-      either (inl t) = let here = all e.from (among_out e.from ps t) in (here, sym (even e refl) ∙ here)
-      either (inr t) = let here = all e.to (among_out e.to ps t) in (even e refl ∙ here, here)
+  marked_joined ps b even all = grind (arith, marked_noted, among_out)
 
   marked_pass : (bs : List OutlineEdge) (ps : List Point) → ((e : Edge) → Memᴰ (Closed e) bs → marks e.from ≡ marks e.to) → Marked ps → Marked (fold joined ps bs)
   marked_pass [] ps even all = all
@@ -218,10 +158,7 @@ groups_kept m s p d stream = every_in (keeps v) m.outline kept
     v = changed_all s (group m p) d
 
     kept : (b : OutlineEdge) → Memᴰ b m.outline → keeps v b ≡ true
-    kept (Held e g h) n = refl
-    kept (Closed e) n =
-        same_from (v e.from) (v e.to)
-        (ap₂ (λ t z. cond t (z +ℤ d) z) (group_balanced m p e n) (same_is (s e.from) (s e.to) (every_out (keeps s) m.outline stream (Closed e) n)))
+    kept b n = grind (arith, group_balanced, every_out)
 
 pub groups_alike : GroupsAlike
 unfolding is_stream keeps
@@ -229,4 +166,4 @@ groups_alike m s p q stream t =
     let marks : Point → Bool = λ r. same (s p) (s r) in
     let even : (e : Edge) → Memᴰ (Closed e) m.outline → marks e.from ≡ marks e.to =
     λ e n. ap (same (s p)) (same_is (s e.from) (s e.to) (every_out (keeps s) m.outline stream (Closed e) n)) in
-    sym (same_is (s p) (s q) ((groups_joined m p q).0 t marks even (same_refl (s p))))
+    sym (same_is (s p) (s q) ((groups_joined m p q).0 t marks even (same_from (s p) (s p) refl)))

@@ -1,5 +1,5 @@
 -- The two halves of an edge, on the side of its beginning and on that of its end. Assumes nothing.
-use Rattle.std.proofs.Common.{◌≡◌, ℤ, ◌+ℤ◌, sym, refl, ap, ◌∙◌, arith}
+use Rattle.std.proofs.Common.{◌≡◌, sym, ap, ◌∙◌, arith}
 use borrow.Author.Differences.{ints}
 use Rattle.rules.specs.declared.Point.{Point}
 use Rattle.rules.specs.declared.Edge.{Edge}
@@ -27,27 +27,23 @@ tip end e = e.to
 
 -- a half has one end of the edge, doubled, and its middle
 pub tip_half : (s : Side) (e : Edge) → tip s (half s e) ≡ twice (tip s e)
-tip_half begin e = refl
-tip_half end e = refl
+tip_half s e = grind arith
 
 pub tip_other : (s : Side) (e : Edge) → tip s (half (other s) e) ≡ middle e.from e.to
-tip_other begin e = refl
-tip_other end e = refl
+tip_other s e = grind arith
 
 -- turned round, a half is the other half of the edge turned round
 pub back_half : (s : Side) (e : Edge) → back (half s e) ≡ half (other s) (back e)
 back_half begin e = λ i. record { from = middle_comm e.from e.to i; to = twice e.from }
 back_half end e = λ i. record { from = twice e.to; to = middle_comm e.from e.to i }
 
-pub tip_back : (s : Side) (e : Edge) → tip (other s) (back e) ≡ tip s e
-tip_back begin e = refl
-tip_back end e = refl
-
 pub twice_is : (p q : Point) → twice p ≡ twice q → p ≡ q
-twice_is p q e = λ i. record { x = equal p.x q.x (ap (λ m. m.x) e) i; y = equal p.y q.y (ap (λ m. m.y) e) i }
-  where
-    equal : (a b : ℤ) → a +ℤ a ≡ b +ℤ b → a ≡ b
-    equal a b h = omega (arith, ints)
+twice_is p q e =
+    let ex = ap (λ m. m.x) e in
+    let ey = ap (λ m. m.y) e in
+    let x : p.x ≡ q.x = omega (arith, ints) in
+    let y : p.y ≡ q.y = omega (arith, ints) in
+    λ i. record { x = x i; y = y i }
 
 pub half_is : (s : Side) (e f : Edge) → half s e ≡ half s f → e ≡ f
 half_is begin e f h =

@@ -1,48 +1,32 @@
 -- Points strictly inside an edge: the test, the edge turned round, doubled and halved. Assumes nothing.
-use Rattle.std.proofs.Common.{◌≡◌, true, false, ◌&&◌, [], ◌∷◌, ℤ, pos, ◌+ℤ◌, ◌-ℤ◌, ◌*ℤ◌, neg_ℤ, ◌≤ℤ◌, ◌<ℤ◌, ap, subst, ⊎_elim, arith}
+use Rattle.std.proofs.Common.{◌≡◌, true, false, [], ◌∷◌, ℤ, pos, ◌+ℤ◌, ◌-ℤ◌, ◌*ℤ◌, neg_ℤ, ◌≤ℤ◌, ◌<ℤ◌, ap, subst, arith}
 use borrow.Author.Differences.{ints}
-use lib.Signed.{lt_z}
-use Rattle.std.proofs.lemmas.Bool.{and_parts, and_from, cases_Bool, both_ways}
+use Rattle.std.proofs.lemmas.Bool.{false_from_ne_true, both_ways}
 use Rattle.exact.proofs.Certificates.{◌≈◌, sqr, ◌⊞◌, prove≤, prove≡}
 use Rattle.exact.proofs.Ring.{var, con, ◌⊕◌, ◌⊗◌, ◌⊝◌, ⊖◌, solve}
 use Rattle.rules.specs.declared.Point.{Point}
 use Rattle.rules.specs.declared.Edge.{Edge}
-use Rattle.rules.specs.Edges.{back, vector, direction, across, along, inside}
+use Rattle.rules.specs.Edges.{back, vector, across, along, inside}
 use Rattle.rules.specs.Finer.{half1, half2}
 use Rattle.rules.specs.Parts.{middle, twice}
-use Rattle.rules.specs.Plates.{same}
 use Rattle.theory.proofs.Corners.{P, Q, R, numbers, over}
 use Rattle.theory.proofs.Halves.{Side, begin, end, half, back_half}
 use Rattle.theory.proofs.Plane.{pair, Across, Along, To, Sum, Inside, Straight, across_middle, along_middle}
-use Rattle.theory.proofs.Sameness.{same_is, same_from}
 
 -- ---- the test
 pub inside_out : (e : Edge) (r : Point) → inside e r ≡ true → Inside e r
 unfolding inside
-inside_out e r h =
-    let d = direction e in
-    let first = and_parts (same (across d r) (across d e.from)) (lt_z (along d e.from) (along d r) && lt_z (along d r) (along d e.to)) h in
-    let rest = and_parts (lt_z (along d e.from) (along d r)) (lt_z (along d r) (along d e.to)) first.1 in
-    let past = rest.0 in
-    let short = rest.1 in
-    record { on = same_is (across d r) (across d e.from) first.0; past = omega (arith, ints); short = omega (arith, ints) }
+inside_out e r h = grind arith
 
 pub inside_in : (e : Edge) (r : Point) → Inside e r → inside e r ≡ true
 unfolding inside
-inside_in e r at =
-    let d = direction e in
-    let past = at.past in
-    let short = at.short in
-    let ltp : lt_z (along d e.from) (along d r) ≡ true = grind (arith, ints) in
-    let lts : lt_z (along d r) (along d e.to) ≡ true = grind (arith, ints) in
-    and_from (same (across d r) (across d e.from)) (lt_z (along d e.from) (along d r) && lt_z (along d r) (along d e.to)) (same_from (across d r) (across d e.from) at.on)
-    (and_from (lt_z (along d e.from) (along d r)) (lt_z (along d r) (along d e.to)) ltp lts)
+inside_in e r at = grind arith
 
 pub outside : (e : Edge) (r : Point) → inside e r ≡ false → Inside e r → ⊥
 outside e r out at = both_ways (inside e r) out (inside_in e r at)
 
 pub is_outside : (e : Edge) (r : Point) → (Inside e r → ⊥) → inside e r ≡ false
-is_outside e r out = ⊎_elim (λ t. absurd (out (inside_out e r t))) (λ f. f) (cases_Bool (inside e r))
+is_outside e r out = false_from_ne_true (inside e r) (λ t. out (inside_out e r t))
 
 -- ---- the edge turned round
 pub across_back : (p q r : Point) → across (vector q p) r ≡ neg_ℤ (across (vector p q) r)
@@ -63,9 +47,6 @@ inside_back e r at =
     let y = along_back p q r in
     let yp = along_back p q p in
     let yq = along_back p q q in
-    let on = at.on in
-    let past = at.past in
-    let short = at.short in
     record { on = omega (arith, ints); past = omega (arith, ints); short = omega (arith, ints) }
 
 -- ---- a corner whose double is the middle of an edge lies inside it
@@ -101,24 +82,7 @@ unfolding along
 along_doubled p q r = solve (numbers p q r) (Along (To (Sum P P) (Sum Q Q)) R) (Along (To P Q) R ⊕ Along (To P Q) R) tt
 
 pub inside_doubled : (e : Edge) (r : Point) → Inside (doubled e) (twice r) → Inside e r
-inside_doubled e r at =
-    let p = e.from in
-    let q = e.to in
-    let d = direction e in
-    let on = at.on in
-    let past = at.past in
-    let short = at.short in
-    let ar = across_doubled p q (twice r) in
-    let ap' = across_doubled p q (twice p) in
-    let br = along_doubled p q (twice r) in
-    let bp = along_doubled p q (twice p) in
-    let bq = along_doubled p q (twice q) in
-    let ar' = across_middle d r r in
-    let ap'' = across_middle d p p in
-    let br' = along_middle d r r in
-    let bp' = along_middle d p p in
-    let bq' = along_middle d q q in
-    record { on = omega (arith, ints); past = omega (arith, ints); short = omega (arith, ints) }
+inside_doubled e r at = grind (arith, across_doubled, along_doubled, across_middle, along_middle)
 
 -- the middle of an edge lies inside it
 pub middle_inside : (p q : Point) → Straight (vector p q) → Inside (doubled (record { from = p; to = q })) (middle p q)
@@ -154,16 +118,7 @@ half1_inside e r at =
     let at-r = halved p q r in
     let at_p = halved p q (twice p) in
     let at-m = halved p q (middle p q) in
-    let r0 = at-r.0 in
-    let r1 = at-r.1 in
-    let p0 = at_p.0 in
-    let p1 = at_p.1 in
-    let m1 = at-m.1 in
-    let more = at-m.2 in
     let not-less = square_sum (q.x -ℤ p.x) (q.y -ℤ p.y) in
-    let on = at.on in
-    let past = at.past in
-    let short = at.short in
     let ar = across_doubled p q r in
     let ap' = across_doubled p q (twice p) in
     let br = along_doubled p q r in
@@ -181,7 +136,6 @@ halved_inside end e r at =
 pub across_link : (p q r x : Point) → Inside (record { from = middle q r; to = middle r p }) x → across (vector p q) x ≡ across (vector p q) q +ℤ across (vector p q) r
 unfolding across
 across_link p q r x at =
-    let on = at.on in
     let here = turned p q r x in
     let there = turned p q r (middle q r) in
     let sum = across_middle (vector p q) q r in
@@ -192,14 +146,6 @@ across_link p q r x at =
         let X = pair 6 7 in
         solve (p.x ∷ p.y ∷ q.x ∷ q.y ∷ r.x ∷ r.y ∷ x.x ∷ x.y ∷ []) (Across (To (Sum Q R) (Sum R P)) X) (⊖ (Across (To P Q) X)) tt
 
--- an end is not inside
-pub from_outside : (e : Edge) (r : Point) → r ≡ e.from → Inside e r → ⊥
-from_outside e r is at = let past = at.past in let here = ap (along (direction e)) is in omega (arith, ints)
-
-pub to_outside : (e : Edge) (r : Point) → r ≡ e.to → Inside e r → ⊥
-to_outside e r is at = let short = at.short in let here = ap (along (direction e)) is in omega (arith, ints)
-
--- nor is the middle of an edge inside a half of it
+-- the middle of an edge is not inside a half of it
 pub middle_outside : (s : Side) (e : Edge) (r : Point) → r ≡ middle e.from e.to → Inside (half s e) r → ⊥
-middle_outside begin e r is at = to_outside (half1 e) r is at
-middle_outside end e r is at = from_outside (half2 e) r is at
+middle_outside s e r is at = grind arith

@@ -1,7 +1,8 @@
 -- The edges from middle to middle in a finer plate: each stands there once. Assumes nothing.
-use Rattle.std.proofs.Common.{◌≡◌, ℕ, zero, suc, ◌<◌, Bool, true, false, ◌&&◌, ◌⊎◌, List, [], ◌∷◌, map, neg_ℤ, sym, refl, ap, ◌∙◌, subst, inl, inr, ⊎_elim, arith}
+use Rattle.std.proofs.Common.{◌≡◌, ◌<◌, Bool, true, false, ◌&&◌, ◌⊎◌, map, neg_ℤ, sym, ap, ◌∙◌, subst, ⊎_elim, eq-zero-or-pos, arith}
+use Rattle.std.specs.Cmp.{both_ways}
 use borrow.Author.Differences.{ints}
-use Rattle.std.proofs.lemmas.Bool.{and_from, and_parts, true≢false}
+use Rattle.std.proofs.lemmas.Bool.{and_from, and_parts}
 use Rattle.exact.specs.Lists.{count}
 use Rattle.exact.proofs.Members.{count_map, count_cong, count_none, count_some, count_one, only_one}
 use Rattle.rules.specs.declared.Point.{Point}
@@ -11,13 +12,13 @@ use Rattle.rules.specs.Edges.{Corner, A, B, C, next, corner, edge, edges_in, bac
 use Rattle.rules.specs.Lawful.{edges, times}
 use Rattle.rules.specs.Plates.{Plate}
 use Rattle.rules.specs.Triangles.{proper}
-use Rattle.theory.proofs.Corners.{prev, near, mid, level, higher, area_above, none_below, middle_index, corner_index}
+use Rattle.theory.proofs.Corners.{prev, mid, level, higher, area_above, none_below, middle_index, corner_index}
 use Rattle.theory.proofs.Facts.{Facts, edge_in, edge_index, edge_among}
 use Rattle.theory.proofs.Halves.{Side, begin, end, half}
 use Rattle.theory.proofs.Insides.{across_back}
 use Rattle.theory.proofs.Meetings.{In, link, no_middle, same_middle}
 use Rattle.theory.proofs.Pieces.{Piece, halved, inner, outer, piece, pieces, tips_differ}
-use Rattle.theory.proofs.Sameness.{edge_is, same_edge_refl, same_edge_from, same_edge_not, tests_equal}
+use Rattle.theory.proofs.Sameness.{edge_is, same_edge_refl, same_edge_from, same_edge_not}
 
 -- ---- no triangle lies above both sides of an edge
 no_back : (s t : Triangle) → proper s ≡ true → proper t ≡ true → (i l c : Corner) → edge t l ≡ back (edge s i) → corner t c ≡ corner s (prev i) → ⊥
@@ -47,35 +48,10 @@ same_corner C B = false
 same_corner C C = true
 
 same_corner_is : (i j : Corner) → same_corner i j ≡ true → i ≡ j
-same_corner_is A A h = refl
-same_corner_is B B h = refl
-same_corner_is C C h = refl
-same_corner_is A B h = absurd (true≢false (sym h))
-same_corner_is A C h = absurd (true≢false (sym h))
-same_corner_is B A h = absurd (true≢false (sym h))
-same_corner_is B C h = absurd (true≢false (sym h))
-same_corner_is C A h = absurd (true≢false (sym h))
-same_corner_is C B h = absurd (true≢false (sym h))
-
-same_corner_refl : (i : Corner) → same_corner i i ≡ true
-same_corner_refl A = refl
-same_corner_refl B = refl
-same_corner_refl C = refl
+same_corner_is i j h = grind arith
 
 same_corner_from : (i j : Corner) → i ≡ j → same_corner i j ≡ true
-same_corner_from i j e = ap (same_corner i) (sym e) ∙ same_corner_refl i
-
-pub turns : (i : Corner) → i ≡ next i → ⊥
-turns A e = true≢false (ap (same_corner A) e)
-turns B e = true≢false (ap (same_corner B) e)
-turns C e = true≢false (ap (same_corner C) e)
-
-some_or_none : (n : ℕ) → (0 < n) ⊎ (n ≡ 0)
-some_or_none zero = inr refl
-some_or_none (suc n) = inl (omega arith)
-
-other_ends : (i j : Corner) → (i ≡ j → ⊥) → (prev i ≡ j) ⊎ (prev i ≡ next j)
-other_ends = near (λ i j. (i ≡ j → ⊥) → (prev i ≡ j) ⊎ (prev i ≡ next j)) (λ i. λ h. absurd (h refl)) (λ i. λ h. inr refl) (λ i. λ h. inl refl)
+same_corner_from i j e = grind arith
 
 module _ (m : Plate) (known : Facts m) where
   -- two edges of s whose middles are those of two edges of t: they are the same edges
@@ -86,10 +62,7 @@ module _ (m : Plate) (known : Facts m) where
       at_end c is h = no_back s t (known.is_proper s ns) (known.is_proper t nt) i l c h is
 
       backs : edge t l ≡ back (edge s i) → (edge t n ≡ edge s j) ⊎ (edge t n ≡ back (edge s j)) → ⊥
-      backs h (inl is) =
-          ⊎_elim (λ p. at_end n (ap (λ g. g.from) is ∙ ap (corner s) (sym p)) h) (λ p. at_end (next n) (ap (λ g. g.to) is ∙ ap (corner s) (sym p)) h) (other_ends i j differ)
-      backs h (inr is) =
-          ⊎_elim (λ p. at_end (next n) (ap (λ g. g.to) is ∙ ap (corner s) (sym p)) h) (λ p. at_end n (ap (λ g. g.from) is ∙ ap (corner s) (sym p)) h) (other_ends i j differ)
+      backs h at = grind (arith, at_end)
 
   -- triangles with a directed edge in common are one
   pub shared : (s t : Triangle) (i l : Corner) → In m known s → In m known t → edge t l ≡ edge s i → s ≡ t
@@ -113,45 +86,24 @@ module _ (m : Plate) (known : Facts m) where
   own_link : (s : Triangle) (i j l n : Corner) → In m known s → same_edge (link s i j) (link s l n) ≡ (same_corner i l && same_corner j n)
   own_link s i j l n ns =
       let index = middle_index s (known.is_proper s ns) in
-      tests_equal (same_edge (link s i j) (link s l n)) (same_corner i l && same_corner j n)
+      both_ways (same_edge (link s i j) (link s l n)) (same_corner i l && same_corner j n)
       (λ h. let e = edge_is (link s i j) (link s l n) h in
       and_from (same_corner i l) (same_corner j n) (same_corner_from i l (index i l (ap (λ g. g.from) e))) (same_corner_from j n (index j n (ap (λ g. g.to) e))))
       (λ h. let both = and_parts (same_corner i l) (same_corner j n) h in
       same_edge_from (link s i j) (link s l n) (λ z. link s (same_corner_is i l both.0 z) (same_corner_is j n both.1 z)))
 
   own_piece : (s : Triangle) (i j : Corner) → In m known s → (p : Piece) → same_edge (link s i j) (piece s p) ≡ own i j p
-  own_piece s i j ns (halved side l) = not_half s s i j side l ns ns
-  own_piece s i j ns (inner k) = own_link s i j (next k) (prev k) ns
-  own_piece s i j ns (outer k) = own_link s i j (prev k) (next k) ns
+  own_piece s i j ns p = grind (arith, not_half, own_link)
 
   own_count : (i j : Corner) → (i ≡ j → ⊥) → count (own i j) pieces ≡ 1
-  own_count A A h = absurd (h refl)
-  own_count A B h = refl
-  own_count A C h = refl
-  own_count B A h = refl
-  own_count B B h = absurd (h refl)
-  own_count B C h = refl
-  own_count C A h = refl
-  own_count C B h = refl
-  own_count C C h = absurd (h refl)
+  own_count i j h = grind arith
 
   own_edge : (s : Triangle) (i : Corner) → In m known s → count (same_edge (edge s i)) (edges_in s) ≡ 1
-  own_edge s i ns =
-      let corners : List Corner = A ∷ B ∷ C ∷ [] in
-      let told : (l : Corner) → same_edge (edge s i) (edge s l) ≡ same_corner i l = λ l.
-      tests_equal (same_edge (edge s i) (edge s l)) (same_corner i l)
-      (λ h. same_corner_from i l (corner_index s (known.is_proper s ns) i l (ap (λ g. g.from) (edge_is (edge s i) (edge s l) h))))
-      (λ h. same_edge_from (edge s i) (edge s l) (ap (edge s) (same_corner_is i l h))) in
-      count_map (same_edge (edge s i)) (edge s) corners ∙ count_cong (λ l. same_edge (edge s i) (edge s l)) (same_corner i) corners (λ l at. told l) ∙ once i
-    where
-      once : (i : Corner) → count (same_corner i) (A ∷ B ∷ C ∷ []) ≡ 1
-      once A = refl
-      once B = refl
-      once C = refl
+  own_edge s i ns = grind (arith, corner_index, edge_is, same_edge_from)
 
   -- ---- in any triangle it stands as often as the edge whose middle it begins at
   pub links : (s t : Triangle) (i j : Corner) → In m known s → In m known t → (i ≡ j → ⊥) → count (same_edge (link s i j)) (map (piece t) pieces) ≡ count (same_edge (edge s i)) (edges_in t)
-  links s t i j ns nt differ = ⊎_elim here elsewhere (some_or_none (count (same_edge (edge s i)) (edges_in t)))
+  links s t i j ns nt differ = ⊎_elim elsewhere here (eq-zero-or-pos (count (same_edge (edge s i)) (edges_in t)))
     where
       test : Edge → Bool
       test = same_edge (link s i j)
@@ -174,6 +126,4 @@ module _ (m : Plate) (known : Facts m) where
               absurd (omega arith))
 
           not_there : (p : Piece) → test (piece t p) ≡ false
-          not_there (halved side l) = not_half s t i j side l ns nt
-          not_there (inner k) = apart (next k) (prev k)
-          not_there (outer k) = apart (prev k) (next k)
+          not_there p = grind (arith, not_half, apart)

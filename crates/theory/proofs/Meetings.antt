@@ -14,54 +14,30 @@ use Rattle.rules.specs.Triangles.{area2, proper}
 use Rattle.theory.proofs.Corners.{prev, near, mid, thrice, middle_comm, level, higher, area_above, straight_edge, not_flat}
 use Rattle.theory.proofs.Facts.{Facts, edge_in}
 use Rattle.theory.proofs.Halves.{Side, half}
-use Rattle.theory.proofs.Insides.{outside, half_inside, doubled, across_doubled, across_link, inside_doubled, middle_inside, halved_inside, from_outside, to_outside, middle_outside}
+use Rattle.theory.proofs.Insides.{outside, half_inside, doubled, across_doubled, across_link, inside_doubled, middle_inside, halved_inside, middle_outside}
 use Rattle.theory.proofs.Plane.{Inside, across_middle, touch, same_ends}
 use Rattle.theory.proofs.Separated.{Separated, parted_out, separated_sym}
 
 -- ---- in one triangle: a corner is at an end of edge k, as high as it, or opposite
 low_or_high : (t : Triangle) (k j : Corner) → ((across (direction (edge t k)) (corner t j) ≡ across (direction (edge t k)) (corner t k)) × ((j ≡ k) ⊎ (j ≡ next k))) ⊎ (j ≡ prev k)
-low_or_high t =
-    near (λ k j. ((across (direction (edge t k)) (corner t j) ≡ across (direction (edge t k)) (corner t k)) × ((j ≡ k) ⊎ (j ≡ next k))) ⊎ (j ≡ prev k))
-    (λ k. inl (refl, inl refl)) (λ k. inl (level t k, inr refl)) (λ k. inr refl)
+low_or_high t = grind (arith, level)
 
 -- a middle inside an edge is that edge's own
 own_middle : (t : Triangle) → proper t ≡ true → (i j : Corner) → Inside (doubled (edge t i)) (mid t j) → j ≡ i
-own_middle t ok i j at = ⊎_elim (λ low. ⊎_elim (λ e. e) second low.1) third (low_or_high t i j)
-  where
-    d : Vector
-    d = direction (edge t i)
-
-    height : across d (mid t j) ≡ across d (corner t i) +ℤ across d (corner t i)
-    height =
-        let on = at.on in
-        let x = across_doubled (corner t i) (corner t (next i)) (mid t j) in
-        let p = across_doubled (corner t i) (corner t (next i)) (twice (corner t i)) in
-        let pp = across_middle d (corner t i) (corner t i) in
-        omega (arith, ints)
-
-    too_high : across d (mid t j) ≡ (across d (corner t i) +ℤ across d (corner t i)) +ℤ area2 t → j ≡ i
-    too_high h = let up = area_above t ok in let here = height in absurd (omega (arith, ints))
-
-    second : j ≡ next i → j ≡ i
-    second e =
-        let sum = across_middle d (corner t (next i)) (corner t (prev i)) in
-        let low = level t i in
-        let high = higher t i in
-        let here = ap (λ l. across d (mid t l)) e in
-        too_high (omega (arith, ints))
-
-    third : j ≡ prev i → j ≡ i
-    third e =
-        let sum = across_middle d (corner t (prev i)) (corner t i) in
-        let high = higher t i in
-        let here = ap (λ l. across d (mid t l)) e ∙ ap (λ l. across d (middle (corner t (prev i)) (corner t l))) (thrice i) in
-        too_high (omega (arith, ints))
+own_middle t ok i j at = grind (arith, ints, low_or_high, across_doubled, across_middle, higher)
 
 -- the edge from middle to middle
 abbrev pub link : Triangle → Corner → Corner → Edge
 link t i j = record { from = mid t i; to = mid t j }
 
--- no corner or middle of the triangle lies inside such an edge; it runs along edge k
+-- the one that runs along edge k, by its corners
+abbrev turned_link : Triangle → Corner → Edge
+turned_link t k = record { from = middle (corner t (next k)) (corner t (prev k)); to = middle (corner t (prev k)) (corner t k) }
+
+link_turned : (t : Triangle) (k : Corner) (x : Point) → Inside (link t (next k) (prev k)) x → Inside (turned_link t k) x
+link_turned t k x = subst (λ l. Inside (record { from = mid t (next k); to = middle (corner t (prev k)) (corner t l) }) x) (thrice k)
+
+-- no corner or middle of the triangle lies inside such an edge
 own_link : (t : Triangle) → proper t ≡ true → (k i j : Corner) → Inside (link t (next k) (prev k)) (middle (corner t i) (corner t j)) → ⊥
 own_link t ok k i j at =
     ⊎_elim (λ li. ⊎_elim (λ lj. both_low li.0 lj.0) (λ hj. one_low i li.1 (middle_comm (corner t i) (corner t j) ∙ ap (λ l. middle (corner t l) (corner t i)) hj)) (low_or_high t k j))
@@ -73,8 +49,8 @@ own_link t ok k i j at =
     x : Point
     x = middle (corner t i) (corner t j)
 
-    at' : Inside (record { from = middle (corner t (next k)) (corner t (prev k)); to = middle (corner t (prev k)) (corner t k) }) x
-    at' = subst (λ l. Inside (record { from = mid t (next k); to = middle (corner t (prev k)) (corner t l) }) x) (thrice k) at
+    at' : Inside (turned_link t k) x
+    at' = link_turned t k x at
 
     height : across d (corner t i) +ℤ across d (corner t j) ≡ (across d (corner t k) +ℤ across d (corner t k)) +ℤ area2 t
     height =
@@ -97,8 +73,7 @@ own_link t ok k i j at =
         omega (arith, ints)
 
     one_low : (l : Corner) → (l ≡ k) ⊎ (l ≡ next k) → x ≡ middle (corner t (prev k)) (corner t l) → ⊥
-    one_low l (inl e) is = to_outside _ x (is ∙ ap (λ n. middle (corner t (prev k)) (corner t n)) e) at'
-    one_low l (inr e) is = from_outside _ x (is ∙ ap (λ n. middle (corner t (prev k)) (corner t n)) e ∙ middle_comm (corner t (prev k)) (corner t (next k))) at'
+    one_low l low is = grind (arith, middle_comm)
 
 -- two corners are one, or neighbours
 neighbours : (i j : Corner) → (j ≡ i) ⊎ ((j ≡ next i) ⊎ (i ≡ next j))
@@ -129,8 +104,7 @@ module _ (m : Plate) (known : Facts m) where
   ok t n = known.is_proper t n
 
   one_or_separated : (s t : Triangle) → In s → In t → (s ≡ t) ⊎ Separated s t
-  one_or_separated s t ns nt =
-      ⊎_elim inl (λ h. inr (⊎_elim (parted_out s t (ok s ns) (ok t nt)) (λ h. separated_sym t s (parted_out t s (ok t nt) (ok s ns) h)) h)) (known.is_apart s t ns nt)
+  one_or_separated s t ns nt = grind (arith, parted_out, separated_sym)
 
   free : (s t : Triangle) (i j : Corner) → In s → In t → Inside (edge s i) (corner t j) → ⊥
   free s t i j ns nt = outside (edge s i) (corner t j) (known.is_clear (edge s i) t j (edge_in m.triangles s i ns) nt)
@@ -144,7 +118,7 @@ module _ (m : Plate) (known : Facts m) where
   inside_middle s t i j ns nt at = ⊎_elim own other (one_or_separated s t ns nt)
     where
       own : s ≡ t → (edge t j ≡ edge s i) ⊎ (edge t j ≡ back (edge s i))
-      own e = inl (ap (edge t) (own_middle t (ok t nt) i j (subst (λ r. Inside (doubled (edge r i)) (mid t j)) e at)) ∙ ap (λ r. edge r i) (sym e))
+      own e = grind (arith, own_middle)
 
       other : Separated s t → (edge t j ≡ edge s i) ⊎ (edge t j ≡ back (edge s i))
       other sep =
@@ -158,8 +132,7 @@ module _ (m : Plate) (known : Facts m) where
       inside_middle s t i j ns nt (subst (Inside (doubled (edge s i))) e (middle_inside (corner s i) (corner s (next i)) (straight_edge s (ok s ns) i)))
 
   middle_of : (s t : Triangle) (i j : Corner) → (edge t j ≡ edge s i) ⊎ (edge t j ≡ back (edge s i)) → mid t j ≡ mid s i
-  middle_of s t i j (inl e) = ap (λ f. middle f.from f.to) e
-  middle_of s t i j (inr e) = ap (λ f. middle f.from f.to) e ∙ middle_comm (corner s (next i)) (corner s i)
+  middle_of s t i j e = grind arith
 
   -- ---- no corner of the finer plate lies inside an edge of it
   -- a corner or middle inside an edge is its middle
@@ -191,15 +164,10 @@ module _ (m : Plate) (known : Facts m) where
           let sum = across_middle d (corner t a) (corner t b) in
           let one = across_middle d (corner s (next k)) (corner s (prev k)) in
           let two = across_middle d (corner s (prev k)) (corner s k) in
-          let at' : Inside (record { from = middle (corner s (next k)) (corner s (prev k)); to = middle (corner s (prev k)) (corner s k) }) x =
-          subst (λ l. Inside (record { from = mid s (next k); to = middle (corner s (prev k)) (corner s l) }) x) (thrice k) at in
-          let ka = sep.sides k a in
+          let at' = link_turned s k x at in
           let kb = sep.sides k b in
           let na = sep.sides (next k) a in
-          let nb = sep.sides (next k) b in
           let pa = sep.sides (prev k) a in
           let pb = sep.sides (prev k) b in
           let flat = touch d _ x at' (omega (arith, ints)) (omega (arith, ints)) in
-          let f1 = flat.0 in
-          let f2 = flat.1 in
           not_flat d s k sep.straight (ok s ns) (omega (arith, ints)) (omega (arith, ints))

@@ -1,14 +1,14 @@
 -- Two proper triangles that are not parted have an inner point in common. Assumes nothing.
-use Rattle.std.proofs.Common.{◌≡◌, ℕ, ◌<◌, true, false, ◌⊎◌, [], ◌∷◌, ◌++◌, map, ℤ, pos, negsuc, ◌+ℤ◌, ◌-ℤ◌, ◌*ℤ◌, neg_ℤ, ◌≤ℤ◌, ◌<ℤ◌, sym, ap, ◌∙◌, subst, inl, inr, ⊎_elim, arith}
+use Rattle.std.proofs.Common.{◌≡◌, ℕ, ◌<◌, true, false, ◌⊎◌, [], ◌∷◌, ◌++◌, map, ℤ, pos, negsuc, ◌+ℤ◌, ◌-ℤ◌, ◌*ℤ◌, neg_ℤ, ◌≤ℤ◌, ◌<ℤ◌, sym, subst, inl, inr, ⊎_elim, arith}
 use mathlib.Core.List.Memᴰ
 use mathlib.Core.List.{Memᴰ}
 use borrow.Author.Differences.{ints}
 use Rattle.std.proofs.lemmas.Int.{by_lt_z}
 use Rattle.std.proofs.lemmas.Bool.{both_ways, or_left, or_right}
-use Rattle.exact.proofs.Certificates.{◌≼◌, hyp, lit, ◌⊞◌, ◌⊠◌, prove≤}
-use Rattle.exact.proofs.Members.{any_in, member_map}
+use Rattle.exact.proofs.Certificates.{◌≼◌, ◌≺◌, hyp, lit, ◌⊞◌, ◌⊠◌, prove<}
+use Rattle.exact.proofs.Members.{any_in}
 use Rattle.exact.proofs.Mixes.{mixed, mix_above}
-use Rattle.exact.proofs.Order.{one_more, below, product_above}
+use Rattle.exact.proofs.Order.{product_above}
 use Rattle.exact.proofs.Ring.{var, con, ◌⊕◌, ◌⊗◌, ◌⊝◌}
 use Rattle.rules.specs.declared.Point.{Point}
 use Rattle.rules.specs.declared.Triangle.{Triangle}
@@ -49,9 +49,7 @@ module _ (s t : Triangle) (ps : proper s ≡ true) (pt : proper t ≡ true)
       g j = height s (next i) (spot (corner t j))
 
       turns : (j : Corner) → pos 0 <ℤ (((f (next j) -ℤ f j) *ℤ (g (prev j) -ℤ g j)) -ℤ ((g (next j) -ℤ g j) *ℤ (f (prev j) -ℤ f j)))
-      turns j =
-          subst (λ z. pos 0 <ℤ z) (ap (λ z. area2 s *ℤ z) (sym (at_top t j)) ∙ seen s t i j (corner t (prev j)))
-          (product_above (area2 s) (area2 t) (area_above s ps) (area_above t pt))
+      turns j = grind (arith, at_top, seen, product_above)
 
       left : (j : Corner) → f (next j) ≤ℤ f j → g j ≤ℤ g (next j) → (g j *ℤ f (next j)) <ℤ (f j *ℤ g (next j))
       left j back up =
@@ -62,9 +60,9 @@ module _ (s t : Triangle) (ps : proper s ≡ true) (pt : proper t ≡ true)
         where
           outside : (a b z a' b' z' : ℤ) → b ≤ℤ a → a' ≤ℤ b' → pos 0 ≤ℤ z → pos 0 ≤ℤ z' → pos 0 <ℤ (((b -ℤ a) *ℤ (z' -ℤ a')) -ℤ ((b' -ℤ a') *ℤ (z -ℤ a))) → (a' *ℤ b) <ℤ (a *ℤ b')
           outside a b z a' b' z' h k hz hz' above =
-              below (prove≤ (a ∷ b ∷ z ∷ a' ∷ b' ∷ z' ∷ [])
-              ((var 1 ≼ var 0) ∷ (var 3 ≼ var 4) ∷ (con (pos 0) ≼ var 2) ∷ (con (pos 0) ≼ var 5) ∷ (con (pos 1) ≼ (((var 1 ⊝ var 0) ⊗ (var 5 ⊝ var 3)) ⊝ ((var 4 ⊝ var 3) ⊗ (var 2 ⊝ var 0)))) ∷ [])
-              (hyp 4 ⊞ (hyp 0 ⊠ hyp 3) ⊞ (hyp 1 ⊠ hyp 2)) (con (pos 1) ⊕ (var 3 ⊗ var 1)) (var 0 ⊗ var 4) tt (h, (k, (hz, (hz', (one_more above, tt))))))
+              prove< (a ∷ b ∷ z ∷ a' ∷ b' ∷ z' ∷ [])
+              ((var 1 ≼ var 0) ∷ (var 3 ≼ var 4) ∷ (con (pos 0) ≼ var 2) ∷ (con (pos 0) ≼ var 5) ∷ (con (pos 0) ≺ (((var 1 ⊝ var 0) ⊗ (var 5 ⊝ var 3)) ⊝ ((var 4 ⊝ var 3) ⊗ (var 2 ⊝ var 0)))) ∷ [])
+              (hyp 4 ⊞ (hyp 0 ⊠ hyp 3) ⊞ (hyp 1 ⊠ hyp 2)) (var 3 ⊗ var 1) (var 0 ⊗ var 4) tt (h, (k, (hz, (hz', (above, tt)))))
 
   -- a spot of t above all three
   abbrev Above : Type 0
@@ -130,13 +128,13 @@ large f =
 
 outweighs : (K a b : ℤ) → pos 0 <ℤ K → pos 0 <ℤ a → pos 0 <ℤ (K +ℤ b) → pos 0 <ℤ ((K *ℤ a) +ℤ (pos 1 *ℤ b))
 outweighs K a b hK ha h =
-    below (prove≤ (K ∷ a ∷ b ∷ []) ((con (pos 1) ≼ var 0) ∷ (con (pos 1) ≼ var 1) ∷ (con (pos 1) ≼ (var 0 ⊕ var 2)) ∷ [])
-    (((hyp 0 ⊞ lit 1) ⊠ hyp 1) ⊞ hyp 2) (con (pos 1)) ((var 0 ⊗ var 1) ⊕ (con (pos 1) ⊗ var 2)) tt (one_more hK, (one_more ha, (one_more h, tt))))
+    prove< (K ∷ a ∷ b ∷ []) ((con (pos 0) ≺ var 0) ∷ (con (pos 0) ≺ var 1) ∷ (con (pos 0) ≺ (var 0 ⊕ var 2)) ∷ [])
+    (((hyp 0 ⊞ lit 1) ⊠ hyp 1) ⊞ hyp 2) (con (pos 0)) ((var 0 ⊗ var 1) ⊕ (con (pos 1) ⊗ var 2)) tt (hK, (ha, (h, tt)))
 
 adds : (K a b : ℤ) → pos 0 <ℤ K → pos 0 ≤ℤ a → pos 0 <ℤ b → pos 0 <ℤ ((K *ℤ a) +ℤ (pos 1 *ℤ b))
 adds K a b hK ha hb =
-    below (prove≤ (K ∷ a ∷ b ∷ []) ((con (pos 1) ≼ var 0) ∷ (con (pos 0) ≼ var 1) ∷ (con (pos 1) ≼ var 2) ∷ [])
-    (((hyp 0 ⊞ lit 1) ⊠ hyp 1) ⊞ hyp 2) (con (pos 1)) ((var 0 ⊗ var 1) ⊕ (con (pos 1) ⊗ var 2)) tt (one_more hK, (ha, (one_more hb, tt))))
+    prove< (K ∷ a ∷ b ∷ []) ((con (pos 0) ≺ var 0) ∷ (con (pos 0) ≼ var 1) ∷ (con (pos 0) ≺ var 2) ∷ [])
+    (((hyp 0 ⊞ lit 1) ⊠ hyp 1) ⊞ hyp 2) (con (pos 0)) ((var 0 ⊗ var 1) ⊕ (con (pos 1) ⊗ var 2)) tt (hK, (ha, (hb, tt)))
 
 strictly : (N : ℕ) (t : Triangle) (z : Point) → ((i : Corner) → pos 0 <ℤ rise t i (pos N) z) → InnerPoint N t z
 unfolding rise
@@ -172,8 +170,8 @@ above_edge s t ok i beyond =
 pub not_parted_means : NotPartedMeans
 not_parted_means s t ps pt not-parted =
     let found = three_edges s t ps pt
-    (λ i. above_edge s t ps i (λ b. not_before s t not-parted (direction (edge s i)) (among (Memᴰ.append_left (map direction (edges_in t)) (member_map direction (edges_in s) (edge s i) (edge_among s i)))) (inr b)))
-    (λ j. above_edge t s pt j (λ b. not_before s t not-parted (direction (edge t j)) (among (Memᴰ.append_right (map direction (edges_in s)) (member_map direction (edges_in t) (edge t j) (edge_among t j)))) (inl b))) in
+    (λ i. above_edge s t ps i (λ b. not_before s t not-parted (direction (edge s i)) (among (Memᴰ.append_left (map direction (edges_in t)) (Memᴰ.map direction (edge_among s i)))) (inr b)))
+    (λ j. above_edge t s pt j (λ b. not_before s t not-parted (direction (edge t j)) (among (Memᴰ.append_right (map direction (edges_in s)) (Memᴰ.map direction (edge_among t j)))) (inl b))) in
     moved s t pt found.0 found.1 found.2
   where
     among : {d : Vector} → Memᴰ d (map direction (edges_in s) ++ map direction (edges_in t)) → Memᴰ d (directions s t)

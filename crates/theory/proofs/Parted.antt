@@ -2,8 +2,7 @@
 use Rattle.std.proofs.Common.{◌≡◌, ℕ, true, [], ◌∷◌, ℤ, pos, ◌-ℤ◌, ◌*ℤ◌, neg_ℤ, ◌≤ℤ◌, ◌<ℤ◌, sym, subst, arith}
 use borrow.Author.Differences.{ints}
 use Rattle.std.proofs.lemmas.Int.{by_lt_z}
-use Rattle.exact.proofs.Certificates.{◌≼◌, hyp, lit, ◌⊞◌, ◌⊠◌, prove≤}
-use Rattle.exact.proofs.Order.{never, one_more, above_difference, least_difference}
+use Rattle.exact.proofs.Certificates.{◌≼◌, ◌≺◌, hyp, lit, ◌⊞◌, ◌⊠◌, prove≤, prove⊥}
 use Rattle.exact.proofs.Ring.{Expr, var, con, ◌⊕◌, ◌⊗◌, ◌⊝◌, ⊖◌, solve}
 use Rattle.rules.specs.declared.Point.{Point}
 use Rattle.rules.specs.declared.Triangle.{Triangle}
@@ -40,16 +39,16 @@ unfolding rise
 inner_below d t N z m straight ok inner most =
     by_lt_z (across d z) (pos N *ℤ m) (λ less. less) (λ more.
     let x : Corner → ℤ = λ i. m -ℤ across d (corner t (prev i)) in
-    let up : (i : Corner) → pos 0 <ℤ rise t i (pos N) z = λ i. above_difference (inner i) in
+    let up : (i : Corner) → pos 0 <ℤ rise t i (pos N) z = λ i. let h = inner i in omega (arith, ints) in
     let none : (i : Corner) → x i ≡ pos 0 =
-    noughts (λ i. rise t i (pos N) z) x up (λ i. least_difference (most (prev i)))
+    noughts (λ i. rise t i (pos N) z) x up (λ i. let h = most (prev i) in omega (arith, ints))
     (subst (λ s. s ≤ℤ pos 0) (sym (mean d t (pos N) m z)) (product (area2 t) (pos N *ℤ m) (across d z) (area_above t ok) more)) in
     let a = none B in let b = none C in let c = none A in
     absurd (not_flat d t A straight ok (omega (arith, ints)) (omega (arith, ints))))
   where
     product : (a b c : ℤ) → pos 0 <ℤ a → b ≤ℤ c → (a *ℤ (b -ℤ c)) ≤ℤ pos 0
     product a b c ha h =
-        prove≤ (a ∷ b ∷ c ∷ []) ((con (pos 1) ≼ var 0) ∷ (var 1 ≼ var 2) ∷ []) ((hyp 0 ⊞ lit 1) ⊠ hyp 1) (var 0 ⊗ (var 1 ⊝ var 2)) (con (pos 0)) tt (one_more ha, (h, tt))
+        prove≤ (a ∷ b ∷ c ∷ []) ((con (pos 0) ≺ var 0) ∷ (var 1 ≼ var 2) ∷ []) ((hyp 0 ⊞ lit 1) ⊠ hyp 1) (var 0 ⊗ (var 1 ⊝ var 2)) (con (pos 0)) tt (ha, (h, tt))
 
 -- z would lie on both sides of the corner of t that comes first across the direction
 pub parted_means : PartedMeans
@@ -65,5 +64,5 @@ parted_means s t ps pt h N above z in-s in-t =
   where
     both_sides : (n a b : ℤ) → a <ℤ (n *ℤ b) → neg_ℤ a <ℤ (n *ℤ neg_ℤ b) → ⊥
     both_sides n a b h k =
-        never (prove≤ (n ∷ a ∷ b ∷ []) (((con (pos 1) ⊕ var 1) ≼ (var 0 ⊗ var 2)) ∷ ((con (pos 1) ⊕ (⊖ var 1)) ≼ (var 0 ⊗ (⊖ var 2))) ∷ [])
-        (hyp 0 ⊞ hyp 1 ⊞ lit 1) (con (pos 1)) (con (pos 0)) tt (one_more h, (one_more k, tt)))
+        prove⊥ (n ∷ a ∷ b ∷ []) ((var 1 ≺ (var 0 ⊗ var 2)) ∷ ((⊖ var 1) ≺ (var 0 ⊗ (⊖ var 2))) ∷ [])
+        (hyp 0 ⊞ hyp 1 ⊞ lit 1) tt (h, (k, tt))

@@ -1,5 +1,6 @@
 -- The edges of a finer plate: halves of edges, and edges between middles; how often each stands there. Assumes nothing.
 use Rattle.std.proofs.Common.{◌≡◌, ℕ, ◌+◌, Bool, false, List, [], ◌∷◌, map, sym, refl, ap, ◌∙◌, arith}
+use Rattle.std.specs.Cmp.{both_ways}
 use mathlib.Core.List.{flat_map}
 use Rattle.exact.specs.Lists.{count}
 use Rattle.exact.proofs.Members.{one, count_ones, count_map}
@@ -12,7 +13,7 @@ use Rattle.rules.specs.Parts.{twice}
 use Rattle.theory.proofs.Corners.{prev, mid}
 use Rattle.theory.proofs.Halves.{Side, begin, end, other, half, tip, tip_half, tip_other, half_is}
 use Rattle.theory.proofs.Meetings.{link}
-use Rattle.theory.proofs.Sameness.{edge_is, same_edge_from, same_edge_not, tests_equal}
+use Rattle.theory.proofs.Sameness.{edge_is, same_edge_from, same_edge_not}
 
 -- the twelve edges of a triangle's four parts
 pub data Piece : Type 0 where
@@ -54,7 +55,7 @@ all_three f g h = let a = ap one (h A) in let b = ap one (h B) in let c = ap one
 -- ---- halves are as many as what is halved
 pub same_halves : (s : Side) (e f : Edge) → same_edge (half s e) (half s f) ≡ same_edge e f
 same_halves s e f =
-    tests_equal (same_edge (half s e) (half s f)) (same_edge e f) (λ t. same_edge_from e f (half_is s e f (edge_is (half s e) (half s f) t)))
+    both_ways (same_edge (half s e) (half s f)) (same_edge e f) (λ t. same_edge_from e f (half_is s e f (edge_is (half s e) (half s f) t)))
     (λ t. same_edge_from (half s e) (half s f) (ap (half s) (edge_is e f t)))
 
 pub tips_differ : (s : Side) (e f : Edge) → (tip s e ≡ tip s f → ⊥) → same_edge e f ≡ false

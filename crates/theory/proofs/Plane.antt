@@ -1,10 +1,9 @@
 -- Points of the plane by a direction: how far across and how far along it they lie, and when a point is inside an edge. Assumes nothing.
 use Rattle.std.proofs.Common.{◌≡◌, ℕ, ◌⊎◌, List, [], ◌∷◌, ℤ, pos, ◌+ℤ◌, ◌-ℤ◌, ◌*ℤ◌, neg_ℤ, ◌≤ℤ◌, ◌<ℤ◌, sym, ◌∙◌, subst, inl, inr, ⊎_elim, arith}
 use borrow.Author.Differences.{ints}
-use Rattle.std.proofs.lemmas.Int.{by_lt_z}
 use Rattle.exact.proofs.Certificates.{◌≈◌, prove≡}
 use Rattle.exact.proofs.Integers.{equal_from_difference}
-use Rattle.exact.proofs.Order.{above_difference, least_difference, factor_out, one_sign, product_above, nought}
+use Rattle.exact.proofs.Order.{factor_out, one_sign, product_above, nought}
 use Rattle.exact.proofs.Ring.{Expr, var, con, ◌⊕◌, ◌⊗◌, ◌⊝◌, ⊖◌, solve}
 use Rattle.rules.specs.declared.Point.{Point}
 use Rattle.rules.specs.declared.Edge.{Edge}
@@ -103,10 +102,10 @@ touch d e x at h k =
     let b = along f e.to -ℤ along f x in
     let y = across d x -ℤ across d e.to in
     let z = across d x -ℤ across d e.from in
-    let ha : pos 0 <ℤ a = above_difference at.past in
-    let hb : pos 0 <ℤ b = above_difference at.short in
-    let hy : pos 0 ≤ℤ y = least_difference k in
-    let hz : pos 0 ≤ℤ z = least_difference h in
+    let ha : pos 0 <ℤ a = omega (arith, ints) in
+    let hb : pos 0 <ℤ b = omega (arith, ints) in
+    let hy : pos 0 ≤ℤ y = omega (arith, ints) in
+    let hz : pos 0 ≤ℤ z = omega (arith, ints) in
     let one : pos 0 <ℤ pos 1 = omega (arith, ints) in
     let zero : pos 0 ≤ℤ pos 0 = omega (arith, ints) in
     let sum : (a *ℤ y) +ℤ (b *ℤ z) ≡ pos 0 = touch_sum d e.from e.to x ∙ nothing_times (across f x) (across f e.from) ((d.x *ℤ f.x) +ℤ (d.y *ℤ f.y)) at.on in
@@ -131,10 +130,7 @@ abbrev pub Amid : ℤ → ℤ → ℤ → Type 0
 Amid a b c = ((a <ℤ c) × (c <ℤ b)) ⊎ ((b <ℤ c) × (c <ℤ a))
 
 amid_products : (a b c : ℤ) → pos 0 <ℤ ((b -ℤ a) *ℤ (c -ℤ a)) → pos 0 <ℤ ((b -ℤ a) *ℤ (b -ℤ c)) → Amid a b c
-amid_products a b c h k =
-    ⊎_elim (λ up. ⊎_elim (λ up'. inl (omega (arith, ints, up.1), omega (arith, ints, up'.1))) (λ down. absurd (omega (arith, ints, up.0, down.0))) (one_sign (b -ℤ a) (b -ℤ c) k))
-    (λ down. ⊎_elim (λ up. absurd (omega (arith, ints, up.0, down.0))) (λ down'. inr (omega (arith, ints, down'.1), omega (arith, ints, down.1))) (one_sign (b -ℤ a) (b -ℤ c) k))
-    (one_sign (b -ℤ a) (c -ℤ a) h)
+amid_products a b c h k = grind (arith, ints, one_sign)
 
 products_amid : (a b c : ℤ) → Amid a b c → (pos 0 <ℤ ((b -ℤ a) *ℤ (c -ℤ a))) × (pos 0 <ℤ ((b -ℤ a) *ℤ (b -ℤ c)))
 products_amid a b c (inl h) =
@@ -192,27 +188,9 @@ module _ (d : Vector) (p q r : Point) (level : across d p ≡ across d q) where
       factor_above n a hn h = ⊎_elim (λ up. up.1) (λ down. absurd (omega (arith, ints, down.0))) (one_sign n a h)
 
 -- ---- four numbers on a line: p and q are not amid r and s, nor r and s amid p and q, and yet the middle of r and s is amid p and q
-ordered : (p q r s : ℤ) → p <ℤ q → (p +ℤ p) <ℤ (r +ℤ s) → (r +ℤ s) <ℤ (q +ℤ q) → (Amid p q r → ⊥) → (Amid p q s → ⊥) → (Amid r s p → ⊥) → (Amid r s q → ⊥) →
-    ((r ≡ p) × (s ≡ q)) ⊎ ((r ≡ q) × (s ≡ p))
-ordered p q r s up low high nr ns np nq =
-    by_lt_z p r
-    (λ pr. by_lt_z r q (λ rq. absurd (nr (inl (pr, rq))))
-    (λ qr. by_lt_z p s (λ ps. by_lt_z s q (λ sq. absurd (ns (inl (ps, sq)))) (λ qs. absurd (omega (arith, ints))))
-    (λ sp. by_lt_z s p (λ less. absurd (np (inr (less, omega (arith, ints))))) (λ ps. by_lt_z q r (λ more. absurd (nq (inr (omega (arith, ints), more)))) (λ rq. inr (omega (arith, ints), omega (arith, ints)))))))
-    (λ rp. by_lt_z p s
-    (λ ps. by_lt_z s q (λ sq. absurd (ns (inl (ps, sq))))
-    (λ qs. by_lt_z r p (λ less. absurd (np (inl (less, omega (arith, ints))))) (λ pr. by_lt_z q s (λ more. absurd (nq (inl (omega (arith, ints), more)))) (λ sq. inl (omega (arith, ints), omega (arith, ints))))))
-    (λ sp. absurd (omega (arith, ints))))
-
-turn : (a b c : ℤ) → Amid a b c → Amid b a c
-turn a b c (inl h) = inr h
-turn a b c (inr h) = inl h
-
 line : (p q r s : ℤ) → Amid (p +ℤ p) (q +ℤ q) (r +ℤ s) → (Amid p q r → ⊥) → (Amid p q s → ⊥) → (Amid r s p → ⊥) → (Amid r s q → ⊥) →
     ((r ≡ p) × (s ≡ q)) ⊎ ((r ≡ q) × (s ≡ p))
-line p q r s (inl h) nr ns np nq = ordered p q r s (omega (arith, ints, h.0, h.1)) h.0 h.1 nr ns np nq
-line p q r s (inr h) nr ns np nq =
-    ⊎_elim inr inl (ordered q p r s (omega (arith, ints, h.0, h.1)) h.0 h.1 (λ a. nr (turn q p r a)) (λ a. ns (turn q p s a)) nq np)
+line p q r s mid nr ns np nq = grind (arith, ints)
 
 amid_cong : (a b c a' b' c' : ℤ) → a ≡ a' → b ≡ b' → c ≡ c' → Amid a b c → Amid a' b' c'
 amid_cong a b c a' b' c' p q r h = subst (λ z. Amid a' b' z) r (subst (λ z. Amid a' z c) q (subst (λ z. Amid z b c) p h))

@@ -1,41 +1,40 @@
 -- The points of a plate in their order: each corner is one of them, and values in a row are found at them. Assumes nothing.
-use Rattle.std.proofs.Common.{◌≡◌, suc, ◌+◌, true, false, cond, not, ◌⊎◌, List, [], ◌∷◌, ◌++◌, map, length, get_or, pos, fold, sym, refl, ap, ◌∙◌, subst, inl, inr, ⊎_elim, arith}
+use Rattle.std.proofs.Common.{◌≡◌, ℕ, suc, Bool, ltb, ◌||◌, ◌+◌, true, cond, not, ◌⊎◌, List, [], ◌∷◌, ◌++◌, map, length, pos, fold, sym, refl, ap, ◌∙◌, subst, inl, inr, ⊎_elim, arith}
 use mathlib.Core.List.Memᴰ
 use mathlib.Core.List.{Memᴰ}
-use Rattle.std.proofs.lemmas.Bool.{cases_Bool, both_ways, cond_both, lt-ltb, ltb-true}
+use Rattle.std.proofs.lemmas.Bool.{cond_both, ltb-true}
+use Rattle.std.proofs.lemmas.List.{get_or-map}
+use Rattle.std.proofs.lemmas.List.Sums.{passes_at_first}
+use Rattle.exact.specs.Lists.{any}
+use Rattle.exact.proofs.Members.{any_out, any_in}
 use Rattle.rules.specs.declared.Point.{Point}
 use Rattle.rules.specs.declared.Triangle.{Triangle}
 use Rattle.rules.specs.Edges.{Corner, A, B, C, corner}
 use Rattle.rules.specs.Laws.{PointsAreCorners}
-use Rattle.rules.specs.Plates.{Values, same_point, place_of, among, noted, corners_noted, points_of, values_at}
-use Rattle.theory.proofs.Sameness.{point_is, same_point_from}
+use Rattle.rules.specs.Plates.{Values, same_point, place_of, among, noted, corners_noted, values_at}
+use Rattle.theory.proofs.Sameness.{point_is, same_point_refl}
 
--- ---- values in the order of the points
-found_here : (q : Point) (ps : List Point) (f : Values) (p : Point) → same_point p q ≡ true → values_at (q ∷ ps) (map f (q ∷ ps)) p ≡ f p
-found_here q ps f p t = ap (λ b. get_or (map f (q ∷ ps)) (cond (not b) (1 + place_of p ps) 0) (pos 0)) t ∙ ap f (sym (point_is p q t))
+-- ---- the points that a list has
+pub among_is : (p : Point) (ps : List Point) → among p ps ≡ any (same_point p) ps
+among_is p [] = refl
+among_is p (q ∷ ps) = step (same_point p q) (place_of p ps) (length ps) ∙ ap (λ b. same_point p q || b) (among_is p ps)
+  where
+    step : (b : Bool) (k n : ℕ) → ltb (cond (not b) (1 + k) 0) (suc n) ≡ (b || ltb k n)
+    step b k n = grind arith
 
-found_later : (q : Point) (ps : List Point) (f : Values) (p : Point) → same_point p q ≡ false → values_at (q ∷ ps) (map f (q ∷ ps)) p ≡ values_at ps (map f ps) p
-found_later q ps f p t =
-    let one : 1 + place_of p ps ≡ suc (place_of p ps) = omega arith in
-    ap (λ b. get_or (map f (q ∷ ps)) (cond (not b) (1 + place_of p ps) 0) (pos 0)) t ∙ ap (λ n. get_or (map f (q ∷ ps)) n (pos 0)) one
+pub among_out : (p : Point) (ps : List Point) → among p ps ≡ true → Memᴰ p ps
+among_out p ps h = let at = any_out (same_point p) ps (sym (among_is p ps) ∙ h) in Memᴰ.cast (point_is p at.0 at.2) at.1
 
+pub among_in : (p : Point) (ps : List Point) → Memᴰ p ps → among p ps ≡ true
+among_in p ps n = among_is p ps ∙ any_in (same_point p) ps p n (same_point_refl p)
+
+-- values in the order of the points
 pub found : (ps : List Point) (f : Values) (p : Point) → Memᴰ p ps → values_at ps (map f ps) p ≡ f p
-found [] f p n = elim n [ ]
-found (q ∷ ps) f p (Memᴰ.head e) = found_here q ps f p (same_point_from p q e)
-found (q ∷ ps) f p (Memᴰ.tail n) = ⊎_elim (found_here q ps f p) (λ t. found_later q ps f p t ∙ found ps f p n) (cases_Bool (same_point p q))
+found ps f p n =
+    let within = ltb-true (place_of p ps) (length ps) (among_in p ps n) in
+    get_or-map f ps (place_of p ps) p (pos 0) within ∙ ap f (sym (point_is p _ (passes_at_first (same_point p) ps p within)))
 
 -- ---- each corner is one of the points
-pub among_out : (p : Point) (ps : List Point) → among p ps ≡ true → Memᴰ p ps
-among_out p [] h = absurd (both_ways (among p []) refl h)
-among_out p (q ∷ ps) h =
-    ⊎_elim (λ t. Memᴰ.head (point_is p q t)) (λ t. Memᴰ.tail (among_out p ps (fewer t))) (cases_Bool (same_point p q))
-  where
-    fewer : same_point p q ≡ false → among p ps ≡ true
-    fewer t =
-        let more = ap (λ b. cond (not b) (1 + place_of p ps) 0) t in
-        let less = ltb-true (place_of p (q ∷ ps)) (length (q ∷ ps)) h in
-        lt-ltb (place_of p ps) (length ps) (omega arith)
-
 pub noted_keeps : (p q : Point) (ps : List Point) → Memᴰ p ps → Memᴰ p (noted ps q)
 unfolding noted
 noted_keeps p q ps n = cond_both (among q ps) ps (ps ++ q ∷ []) (Memᴰ p) (λ t. n) (λ f. Memᴰ.append_left (q ∷ []) n)
@@ -61,22 +60,6 @@ corner_listed ps [] t i n = elim n [ ]
 corner_listed ps (s ∷ ts) t i (Memᴰ.head e) = points_kept (corner t i) (corners_noted ps s) ts (subst (λ r. Memᴰ (corner t i) (corners_noted ps r)) e (corner_noted ps t i))
 corner_listed ps (s ∷ ts) t i (Memᴰ.tail n) = corner_listed (corners_noted ps s) ts t i n
 
-first_among : (p q : Point) (ps : List Point) → same_point p q ≡ true → among p (q ∷ ps) ≡ true
-first_among p q ps t =
-    let none = ap (λ b. cond (not b) (1 + place_of p ps) 0) t in
-    lt-ltb (place_of p (q ∷ ps)) (length (q ∷ ps)) (omega arith)
-
-later_among : (p q : Point) (ps : List Point) → same_point p q ≡ false → among p ps ≡ true → among p (q ∷ ps) ≡ true
-later_among p q ps t h =
-    let more = ap (λ b. cond (not b) (1 + place_of p ps) 0) t in
-    let less = ltb-true (place_of p ps) (length ps) h in
-    lt-ltb (place_of p (q ∷ ps)) (length (q ∷ ps)) (omega arith)
-
-pub among_in : (p : Point) (ps : List Point) → Memᴰ p ps → among p ps ≡ true
-among_in p [] n = elim n [ ]
-among_in p (q ∷ ps) (Memᴰ.head e) = first_among p q ps (same_point_from p q e)
-among_in p (q ∷ ps) (Memᴰ.tail n) = ⊎_elim (first_among p q ps) (λ t. later_among p q ps t (among_in p ps n)) (cases_Bool (same_point p q))
-
 -- ---- and each point is a corner
 abbrev CornerOf : Point → List Triangle → Type 0
 CornerOf p ts = (t : Triangle) × (i : Corner) × Memᴰ t ts × (p ≡ corner t i)
@@ -95,7 +78,4 @@ points_out p ps (t ∷ ts) n =
     ⊎_elim (λ m. ⊎_elim inl (λ c. inr (t, c.0, Memᴰ.head refl, c.1)) (corners_out p ps t m)) (λ c. inr (c.0, c.1, Memᴰ.tail c.2, c.3)) (points_out p (corners_noted ps t) ts n)
 
 pub points_are_corners : PointsAreCorners
-points_are_corners m = (out, λ t i n. among_in (corner t i) (points_of m.triangles) (corner_listed [] m.triangles t i n))
-  where
-    out : (p : Point) → among p (points_of m.triangles) ≡ true → CornerOf p m.triangles
-    out p h = ⊎_elim (λ n. absurd (Memᴰ.not-nil n)) (λ c. c) (points_out p [] m.triangles (among_out p (points_of m.triangles) h))
+points_are_corners m = grind (arith, among_in, corner_listed, points_out, among_out)

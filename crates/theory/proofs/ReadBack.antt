@@ -4,7 +4,8 @@ use mathlib.Core.List.{flat_map}
 use lib.Signed.{le_z}
 use Rattle.std.specs.List.{range_with_len}
 use Rattle.exact.specs.Lists.{every}
-use Rattle.exact.proofs.Members.{every_in, every_map}
+use Rattle.std.proofs.lemmas.List.Folds.{list_all-map}
+use Rattle.exact.proofs.Members.{every_in}
 use Rattle.rules.specs.declared.Edge.{Edge}
 use Rattle.rules.specs.declared.Triangle.{Triangle}
 use Rattle.rules.specs.declared.OutlineEdge.{OutlineEdge}
@@ -54,8 +55,7 @@ seven_read pre post kind e g h i begins =
     λ j. cond (eqb (natural (k j)) 1) (Held (edge j) (g' j) (h' j)) (Closed (edge j))
 
 outline_read : (pre post : List ℤ) (b : OutlineEdge) (i : ℕ) → outline_start (pre ++ (written_edge b ++ post)) i ≡ length pre → outline_at (pre ++ (written_edge b ++ post)) i ≡ b
-outline_read pre post (Closed e) i begins = seven_read pre post (pos 0) e (pos 0) (pos 0) i begins
-outline_read pre post (Held e g h) i begins = seven_read pre post (pos 1) e g h i begins
+outline_read pre post b i begins = grind (arith, seven_read)
 
 -- ---- rows of seven numbers each, written one behind the other and read one by one
 module _ {X Y : Type 0} (row : X → List ℤ) (seven-long : (x : X) → length (row x) ≡ 7) (zs : List ℤ) (at : ℕ → Y) (is : X → Y) (start : ℕ)
@@ -75,13 +75,11 @@ unfolding flat_map
 rows_long row seven-long [] = refl
 rows_long row seven-long (x ∷ xs) =
     let both = length-append (row x) (flat_map row xs) in
-    let here = seven-long x in
     let rest = rows_long row seven-long xs in
     omega arith
 
 edge_long : (b : OutlineEdge) → length (written_edge b) ≡ 7
-edge_long (Closed e) = refl
-edge_long (Held e g h) = refl
+edge_long b = grind arith
 
 -- ---- a plate, written
 module _ (m : Plate) where
@@ -117,7 +115,7 @@ module _ (m : Plate) where
   pub all_marked_lem : all_marked (written m) ≡ true
   unfolding written
   all_marked_lem =
-      sym (every_map (λ t. t) (marked (written m)) (range_with_len 0 (length m.outline))) ∙ ap (every (λ t. t)) (edges_read marked (λ b. true) each_marked) ∙ every_map (λ t. t) (λ b. true) m.outline
+      sym (list_all-map (λ t. t) (marked (written m)) (range_with_len 0 (length m.outline))) ∙ ap (every (λ t. t)) (edges_read marked (λ b. true) each_marked) ∙ list_all-map (λ t. t) (λ b. true) m.outline
       ∙ every_in (λ b. true) m.outline (λ b n. refl)
 
 pub read_as_written : ReadAsWritten

@@ -1,19 +1,19 @@
 -- The tests whether two numbers, points or edges are the same decide it. Assumes nothing.
-use Rattle.std.proofs.Common.{◌≡◌, Bool, true, false, ℤ, sym, refl, ap, ◌∙◌, ⊎_elim, arith}
-use borrow.Author.Differences.{ints}
-use lib.Signed.{le_z}
-use Rattle.std.proofs.lemmas.Bool.{and_parts, and_from, cases_Bool}
+use Rattle.std.proofs.Common.{◌≡◌, Bool, true, false, ℤ, sym, refl, ap, ◌∙◌, arith}
+use Rattle.std.specs.Cmp.{both_ways}
+use Rattle.std.proofs.lemmas.Bool.{and_parts, and_from, false_from_ne_true}
+use Rattle.std.proofs.lemmas.Bool.Decides.{Decides-int_eq}
 use Rattle.rules.specs.declared.Point.{Point}
 use Rattle.rules.specs.declared.Edge.{Edge}
 use Rattle.rules.specs.Edges.{back, same_edge}
 use Rattle.rules.specs.Plates.{same, same_point}
 
 -- ---- the test passes on one thing twice
-pub same_refl : (z : ℤ) → same z z ≡ true
-same_refl z = let le : le_z z z ≡ true = grind (arith, ints) in and_from (le_z z z) (le_z z z) le le
+pub same_from : (y z : ℤ) → y ≡ z → same y z ≡ true
+same_from y z e = (Decides-int_eq y z).1 e
 
 pub same_point_refl : (p : Point) → same_point p p ≡ true
-same_point_refl p = and_from (same p.x p.x) (same p.y p.y) (same_refl p.x) (same_refl p.y)
+same_point_refl p = and_from (same p.x p.x) (same p.y p.y) (same_from p.x p.x refl) (same_from p.y p.y refl)
 
 pub same_edge_refl : (e : Edge) → same_edge e e ≡ true
 unfolding same_edge
@@ -21,7 +21,7 @@ same_edge_refl e = and_from (same_point e.from e.from) (same_point e.to e.to) (s
 
 -- ---- what passes it is one thing
 pub same_is : (y z : ℤ) → same y z ≡ true → y ≡ z
-same_is y z h = let both = and_parts (le_z y z) (le_z z y) h in let le = both.0 in let ge = both.1 in grind (arith, ints)
+same_is y z h = (Decides-int_eq y z).0 h
 
 pub point_is : (p q : Point) → same_point p q ≡ true → p ≡ q
 point_is p q h =
@@ -38,25 +38,16 @@ edge_is e f h =
     let to = point_is e.to f.to both.1 in
     λ i. record { from = from i; to = to i }
 
--- two tests are equal where each passes with the other
-pub tests_equal : (b c : Bool) → (b ≡ true → c ≡ true) → (c ≡ true → b ≡ true) → b ≡ c
-tests_equal true c there back = sym (there refl)
-tests_equal false true there back = back refl
-tests_equal false false there back = refl
-
 -- ---- of any test that decides it: it is the same from right to left, and fails on two things
 module _ {A : Type 0} (test : A → A → Bool) (alike : (a : A) → test a a ≡ true) (is : (a b : A) → test a b ≡ true → a ≡ b) where
   passes : (a b : A) → a ≡ b → test a b ≡ true
   passes a b e = ap (test a) (sym e) ∙ alike a
 
   symmetric : (a b : A) → test a b ≡ test b a
-  symmetric a b = tests_equal (test a b) (test b a) (λ t. passes b a (sym (is a b t))) (λ t. passes a b (sym (is b a t)))
+  symmetric a b = both_ways (test a b) (test b a) (λ t. passes b a (sym (is a b t))) (λ t. passes a b (sym (is b a t)))
 
   fails : (a b : A) → (a ≡ b → ⊥) → test a b ≡ false
-  fails a b differ = ⊎_elim (λ t. absurd (differ (is a b t))) (λ f. f) (cases_Bool (test a b))
-
-pub same_from : (y z : ℤ) → y ≡ z → same y z ≡ true
-same_from = passes same same_refl same_is
+  fails a b differ = false_from_ne_true (test a b) (λ t. differ (is a b t))
 
 pub same_point_from : (p q : Point) → p ≡ q → same_point p q ≡ true
 same_point_from = passes same_point same_point_refl point_is
@@ -72,5 +63,4 @@ same_edge_not = fails same_edge same_edge_refl edge_is
 
 -- an edge is the back of another just where that is the back of it
 pub same_edge_back : (e f : Edge) → same_edge (back e) f ≡ same_edge (back f) e
-same_edge_back e f =
-    tests_equal (same_edge (back e) f) (same_edge (back f) e) (λ t. same_edge_from (back f) e (ap back (sym (edge_is (back e) f t)))) (λ t. same_edge_from (back e) f (ap back (sym (edge_is (back f) e t))))
+same_edge_back e f = grind (arith, same_edge_from, edge_is)

@@ -6,7 +6,7 @@ use borrow.Author.Differences.{ints}
 use lib.Signed.{le_z}
 use Rattle.std.proofs.lemmas.Bool.{or_cases}
 use Rattle.exact.specs.Lists.{every}
-use Rattle.exact.proofs.Members.{every_out, every_in, any_out, map_member}
+use Rattle.exact.proofs.Members.{every_in, any_out}
 use Rattle.rules.specs.declared.Point.{Point}
 use Rattle.rules.specs.declared.Triangle.{Triangle}
 use Rattle.rules.specs.declared.Vector.{Vector}
@@ -14,7 +14,7 @@ use Rattle.rules.specs.Edges.{Corner, corner, corners_in, edges_in, direction, a
 use Rattle.rules.specs.Lawful.{before, one_side, directions, parted}
 use Rattle.rules.specs.Triangles.{proper}
 use Rattle.theory.proofs.Corners.{straight_edge}
-use Rattle.theory.proofs.Facts.{corner_in, corner_out, edge_index}
+use Rattle.theory.proofs.Facts.{corner_out, edge_index}
 use Rattle.theory.proofs.Plane.{Straight, opposite, across_opposite, straight_opposite}
 
 -- no corner of s lies farther across d than any corner of t
@@ -23,10 +23,7 @@ Sides d s t = (i j : Corner) → across d (corner s i) ≤ℤ across d (corner t
 
 pub before_out : (d : Vector) (s t : Triangle) → before d s t ≡ true → Sides d s t
 unfolding before
-before_out d s t h i j =
-    let test : Point → Point → Bool = λ p q. le_z (across d p) (across d q) in
-    let is = every_out (test (corner s i)) (corners_in t) (every_out (λ p. every (test p) (corners_in t)) (corners_in s) h (corner s i) (corner_in s i)) (corner t j) (corner_in t j) in
-    omega (arith, ints)
+before_out d s t h i j = grind arith
 
 pub before_in : (d : Vector) (s t : Triangle) → Sides d s t → before d s t ≡ true
 unfolding before
@@ -36,7 +33,7 @@ before_in d s t h =
     every_in (test p) (corners_in t) (λ q n. let i = corner_out s p m in let j = corner_out t q n in at_most i.0 j.0 p q i.1 j.1))
   where
     at_most : (i j : Corner) (p q : Point) → p ≡ corner s i → q ≡ corner t j → le_z (across d p) (across d q) ≡ true
-    at_most i j p q e f = let le = h i j in let pe = ap (across d) e in let qe = ap (across d) f in grind (arith, ints)
+    at_most i j p q e f = let le = h i j in let pe = ap (across d) e in let qe = ap (across d) f in grind arith
 
 pub sides_opposite : (d : Vector) (s t : Triangle) → Sides d s t → Sides (opposite d) t s
 sides_opposite d s t h j i =
@@ -59,9 +56,9 @@ direction_straight s t ps pt d (Memᴰ.tail (Memᴰ.tail m)) =
   where
     of : (r : Triangle) → proper r ≡ true → Memᴰ d (map direction (edges_in r)) → Straight d
     of r pr m =
-        let at = map_member direction (edges_in r) d m in
+        let at = Memᴰ.of_map direction (edges_in r) m in
         let which = edge_index r at.0 at.1 in
-        subst Straight (sym (at.2 ∙ ap direction which.1)) (straight_edge r pr which.0)
+        subst Straight (sym (ap direction which.1) ∙ at.2) (straight_edge r pr which.0)
 
 pub parted_out : (s t : Triangle) → proper s ≡ true → proper t ≡ true → parted s t ≡ true → Separated s t
 unfolding parted

@@ -1,7 +1,7 @@
 -- Spots: points at any scale, how high they lie above the edges of a triangle, and mixes of them. Assumes nothing.
 use Rattle.std.proofs.Common.{◌≡◌, true, List, [], ◌∷◌, ℤ, pos, ◌+ℤ◌, ◌-ℤ◌, ◌*ℤ◌, ◌≤ℤ◌, ◌<ℤ◌, sym, ap, ◌∙◌, subst, arith}
 use borrow.Author.Differences.{ints}
-use Rattle.exact.proofs.Mixes.{mix_least, mix_above}
+use Rattle.exact.proofs.Mixes.{mix_above}
 use Rattle.exact.proofs.Ring.{Expr, var, con, ◌⊕◌, ◌⊗◌, ◌⊝◌, solve}
 use Rattle.rules.specs.declared.Point.{Point}
 use Rattle.rules.specs.declared.Triangle.{Triangle}
@@ -71,11 +71,7 @@ pub corner_within : (t : Triangle) → proper t ≡ true → (j : Corner) → Wi
 corner_within t ok j = record { above = omega (arith, ints); least = λ i. own_height t ok i j }
 
 pub mix_within : (t : Triangle) (a b : ℤ) (h k : Spot) → pos 0 ≤ℤ a → pos 0 ≤ℤ b → pos 0 <ℤ (a +ℤ b) → Within t h → Within t k → Within t (mix a h b k)
-mix_within t a b h k ha hb some wh wk =
-    record {
-      above = mix_above a b h.n k.n ha hb some wh.above wk.above;
-      least = λ i. subst (λ z. pos 0 ≤ℤ z) (sym (height_mix t i a b h k)) (mix_least a b (height t i h) (height t i k) ha hb (wh.least i) (wk.least i));
-    }
+mix_within t a b h k ha hb some wh wk = grind (arith, mix_above, height_mix)
 
 pub mixed_height : (t : Triangle) (i : Corner) (a b : ℤ) (h k : Spot) → pos 0 <ℤ ((a *ℤ height t i h) +ℤ (b *ℤ height t i k)) → pos 0 <ℤ height t i (mix a h b k)
 mixed_height t i a b h k = subst (λ z. pos 0 <ℤ z) (sym (height_mix t i a b h k))

@@ -22,10 +22,7 @@ highest f =
 pub some_above : {P : Type 0} (f : Corner → ℤ) → ((j : Corner) → pos 0 <ℤ f j → P) → (((i : Corner) → f i ≤ℤ pos 0) → P) → P
 some_above f some none =
     let top = highest f in
-    by_lt_z (pos 0) (f top.0) (some top.0) (λ low. none (λ i. at_most low (top.1 i)))
-  where
-    at_most : {a b : ℤ} → b ≤ℤ pos 0 → a ≤ℤ b → a ≤ℤ pos 0
-    at_most {a} {b} h k = omega (arith, ints)
+    by_lt_z (pos 0) (f top.0) (some top.0) (λ low. none (λ i. let most = top.1 i in omega (arith, ints)))
 
 -- ---- sums
 abbrev pub sum : (Corner → ℤ) → ℤ

@@ -1,12 +1,12 @@
 -- The identities of one triangle, and its law. Assumes nothing.
-use Rattle.std.proofs.Common.{◌≡◌, ℕ, true, T, ltb, List, [], ◌∷◌, ℤ, pos, negsuc, ◌+ℤ◌, ◌-ℤ◌, ◌*ℤ◌, nat_abs, ◌≤ℤ◌, sym, refl, ap, ◌∙◌, ap₂}
+use Rattle.std.proofs.Common.{◌≡◌, ℕ, T, ltb, List, [], ◌∷◌, ℤ, pos, ◌+ℤ◌, ◌-ℤ◌, ◌*ℤ◌, nat_abs, ◌≤ℤ◌, sym, ap, ◌∙◌, ap₂, arith}
+use borrow.Author.Differences.{ints}
 use lib.Signed.{lt_z}
-use Rattle.std.proofs.lemmas.Bool.{and_parts, false≢true}
+use Rattle.std.proofs.lemmas.Bool.{and_parts}
 use Rattle.exact.proofs.Certificates.{◌≼◌, ◌≈◌, hyp, lit, sqr, off, ◌⊞◌, ◌⊠◌, natural, prove≤}
 use Rattle.exact.proofs.Ring.{Expr, var, con, ◌⊕◌, ◌⊗◌, ◌⊝◌, ⊖◌, value, same, solve}
 use Rattle.rules.specs.declared.Triangle.{Triangle}
 use Rattle.rules.specs.declared.Corners.{Corners}
-use Rattle.rules.specs.declared.Vector.{Vector}
 use Rattle.rules.specs.Triangles.{area2, weighed, turned, norm, around}
 use Rattle.rules.specs.Parts.{Part, at_a, at_b, at_c, between, part}
 use Rattle.rules.proofs.Norms.{norm_is}
@@ -84,18 +84,15 @@ law_over k d w nu ns ux uy sx sy above is-nu is-ns spans =
     ((((k' ⊗ nu') ⊗ ((two ⊗ d') ⊗ k')) ⊕ (ns' ⊗ (two ⊗ d'))) ⊗ con (pos 1)) tt
     (above, (is-nu, (is-ns, (spans, tt))))
 
-positive_is : (d : ℤ) → lt_z (pos 0) d ≡ true → d ≡ pos (nat_abs d)
-positive_is (pos n) h = refl
-positive_is (negsuc n) h = absurd (false≢true h)
-
 pub local_law : LocalLaw
 local_law t ok u s =
     let v = turned t u in
     let w = turned t s in
     let d = area2 t in
-    let above = (and_parts (lt_z (pos 0) d) (ltb 0 t.k) ok).0 in
+    let above = and_parts (lt_z (pos 0) d) (ltb 0 t.k) ok in
+    let size : d ≡ pos (nat_abs d) = omega (arith, ints) in
     law_over (pos t.k) (pos (nat_abs d)) (around u s) (pos (norm v)) (pos (norm w)) v.x v.y w.x w.y (natural (nat_abs d)) (norm_is v) (norm_is w)
-    (cross t u s ∙ ap (λ z. z *ℤ around u s) (positive_is d above))
+    (cross t u s ∙ ap (λ z. z *ℤ around u s) size)
 
 -- ---- the four parts
 abbrev split : Part → Three → Three
@@ -110,18 +107,12 @@ alike : (ρ : List ℤ) (P : Three → Three) → T (same ρ (Weighed (P U) (P X
 alike ρ P x y area =
     (solve ρ (Weighed (P U) (P X)) (Weighed U X) x, solve ρ (Weighed (P U) (P Y)) (Weighed U Y) y, solve ρ (Area (P X) (P Y)) (Area X Y) area)
 
-vector : (x y x' y' : ℤ) → x ≡ x' → y ≡ y' → ◌≡◌ {A = Vector} (record { x = x; y = y }) (record { x = x'; y = y' })
-vector x y x' y' p q = λ i. record { x = p i; y = q i }
-
 pub parts_alike : PartsAlike
 unfolding area2 weighed turned
-parts_alike at_a t u = let e = alike (numbers t u u) (split at_a) tt tt tt in (vector _ _ _ _ e.0 e.1, e.2)
-parts_alike at_b t u = let e = alike (numbers t u u) (split at_b) tt tt tt in (vector _ _ _ _ e.0 e.1, e.2)
-parts_alike at_c t u = let e = alike (numbers t u u) (split at_c) tt tt tt in (vector _ _ _ _ e.0 e.1, e.2)
-parts_alike between t u = let e = alike (numbers t u u) (split between) tt tt tt in (vector _ _ _ _ e.0 e.1, e.2)
+parts_alike at_a t u = let e = alike (numbers t u u) (split at_a) tt tt tt in (λ i. record { x = e.0 i; y = e.1 i }, e.2)
+parts_alike at_b t u = let e = alike (numbers t u u) (split at_b) tt tt tt in (λ i. record { x = e.0 i; y = e.1 i }, e.2)
+parts_alike at_c t u = let e = alike (numbers t u u) (split at_c) tt tt tt in (λ i. record { x = e.0 i; y = e.1 i }, e.2)
+parts_alike between t u = let e = alike (numbers t u u) (split between) tt tt tt in (λ i. record { x = e.0 i; y = e.1 i }, e.2)
 
 pub part_k : (p : Part) (t : Triangle) → (part p t).k ≡ t.k
-part_k at_a t = refl
-part_k at_b t = refl
-part_k at_c t = refl
-part_k between t = refl
+part_k p t = grind arith

@@ -1,3 +1,2 @@
 pub mod Quotients
 pub mod Reach
-pub mod Within

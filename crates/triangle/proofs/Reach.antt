@@ -8,9 +8,13 @@ use Rattle.rules.specs.Limits.{modest, near_corners, gentle, in_reach}
 use Rattle.rules.specs.Triangles.{proper, turned}
 
 module _ (t : Triangle) (u : Corners) where
-  pub beyond : false ≡ (modest t && near_corners u) → in_reach t u ≡ false
+  pub large : modest t ≡ false → in_reach t u ≡ false
   unfolding in_reach
-  beyond e = and_left (modest t && near_corners u) (proper t && gentle (turned t u)) (sym e)
+  large e = and_left (modest t && near_corners u) (proper t && gentle (turned t u)) (and_left (modest t) (near_corners u) e)
+
+  pub far : near_corners u ≡ false → in_reach t u ≡ false
+  unfolding in_reach
+  far e = and_left (modest t && near_corners u) (proper t && gentle (turned t u)) (and_right (modest t) (near_corners u) e)
 
   pub improper : proper t ≡ false → in_reach t u ≡ false
   unfolding in_reach
@@ -22,7 +26,8 @@ module _ (t : Triangle) (u : Corners) where
     steep e =
         and_right (modest t && near_corners u) (proper t && gentle (turned t u)) (and_right (proper t) (gentle (turned t u)) (ap gentle (sym slope) ∙ e))
 
-    pub reached : true ≡ (modest t && near_corners u) → proper t ≡ true → gentle v ≡ true → in_reach t u ≡ true
+    pub reached : modest t ≡ true → near_corners u ≡ true → proper t ≡ true → gentle v ≡ true → in_reach t u ≡ true
     unfolding in_reach
-    reached within is_proper is-gentle =
-        and_from (modest t && near_corners u) (proper t && gentle (turned t u)) (sym within) (and_from (proper t) (gentle (turned t u)) is_proper (ap gentle (sym slope) ∙ is-gentle))
+    reached is_modest are-near is_proper is-gentle =
+        and_from (modest t && near_corners u) (proper t && gentle (turned t u)) (and_from (modest t) (near_corners u) is_modest are-near)
+        (and_from (proper t) (gentle (turned t u)) is_proper (ap gentle (sym slope) ∙ is-gentle))

@@ -1,5 +1,7 @@
 //! The two kinds of quotients.
 
+// An enum and no closure: there are just two, and contracts name their quotients by it.
+
 /// Which quotient of a triangle is meant.
 #[derive(Clone, Copy)]
 pub enum Kind {

@@ -4,7 +4,6 @@
 mod geometry;
 mod gradient;
 pub mod kinds;
-mod limits;
 pub mod terms;
 
-pub use geometry::difference;
+pub use geometry::{difference, direction};

@@ -7,8 +7,8 @@ ghost use Rattle.triangle.specs.Terms.{quotient_of, term_of};
 use crate::geometry::proper_area;
 use crate::gradient::{squared_length, turned_gradient};
 use crate::kinds::Kind;
-use crate::limits::are_within;
 use exact::{below_cap, capped_product, ceil_div};
+use rules::limits::Within;
 use rules::{Corners, Triangle};
 
 /// The quotient, from the conductivity, twice the area and the square of the gradient's length; `None` from 2^62 on.
@@ -30,10 +30,9 @@ fn quotient(kind: Kind, k: u64, area: u64, square: u64) -> Option<u64>
 pub fn rounded(kind: Kind, t: &Triangle, u: &Corners) -> Option<u64>
     ensures { result ≡ (if in_reach t.now u.now then capped (term_of kind t.now u.now) else None) }
 {
-    if !are_within(t, u) {
-        return None;
-    }
-    let area = proper_area(t)?;
-    let square = squared_length(&turned_gradient(t, u))?;
-    quotient(kind, t.k, area, square)
+    let t = Within::new(*t)?;
+    let u = Within::new(*u)?;
+    let area = proper_area(&t)?;
+    let square = squared_length(&turned_gradient(&t, &u))?;
+    quotient(kind, t.value.k, area, square)
 }

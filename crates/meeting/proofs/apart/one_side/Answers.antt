@@ -2,14 +2,12 @@ use Rattle.std.proofs.Common.{◌∙◌}
 use Rattle.meeting.proofs.Sides.{this_way, other_way}
 use Rattle.meeting.proofs.apart.one_side.Goals as goal
 
-pub returns-then-all_below : goal.returns-then-all_below
-returns-then-all_below c =
-    c.if-all_below.true
-    ∙ this_way c.args.d.now c.args.s.now c.args.t.now c.corners_across-u.result c.corners_across-v.result c.corners_across-u.ensures c.corners_across-v.ensures
-    c.if-all_below.ensures
+pub returns-then-below : goal.returns-then-below
+returns-then-below c =
+    c.if-below.true
+    ∙ this_way c.args.d.now.value c.args.s.now.value c.args.t.now.value c.heights-u.result c.heights-v.result c.heights-u.ensures c.heights-v.ensures c.if-below.ensures
 
-pub returns-else-all_below : goal.returns-else-all_below
-returns-else-all_below c =
-    c.all_below-else-all_below.ensures
-    ∙ other_way c.args.d.now c.args.s.now c.args.t.now c.corners_across-u.result c.corners_across-v.result c.corners_across-u.ensures c.corners_across-v.ensures
-    c.if-all_below.ensures
+pub returns-else-below : goal.returns-else-below
+returns-else-below c =
+    c.below-else-below.ensures
+    ∙ other_way c.args.d.now.value c.args.s.now.value c.args.t.now.value c.heights-u.result c.heights-v.result c.heights-u.ensures c.heights-v.ensures c.if-below.ensures

@@ -1,22 +1,15 @@
-use Rattle.std.proofs.Common.{rules}
-use Rattle.rules.specs.Edges.{A, B, C}
+use Rattle.std.proofs.Common.{not, ◌∙◌, rules, tests}
+use Rattle.std.proofs.lemmas.Iterator.{YieldsList-from_slice}
+use Rattle.std.proofs.lemmas.Iterator.Search.{all_from_yields_List}
+use Rattle.exact.proofs.Lists.{every_through}
+use Rattle.rules.specs.Edges.{inside}
 use Rattle.rules.specs.Lawful.{clear}
-use Rattle.meeting.proofs.Near.{near_corner}
 use Rattle.meeting.proofs.clear.clear.Goals as goal
 
-pub inside-requires : goal.inside-requires
-inside-requires c = record { ends = c.requires.ends; near = near_corner c.args.t.now c.requires.within A }
-
-pub inside-requires-then-not-inside : goal.inside-requires-then-not-inside
-inside-requires-then-not-inside c = record { ends = c.requires.ends; near = near_corner c.args.t.now c.requires.within B }
-
-pub inside-requires-then-not-inside-2 : goal.inside-requires-then-not-inside-2
-inside-requires-then-not-inside-2 c = record { ends = c.requires.ends; near = near_corner c.args.t.now c.requires.within C }
-
-pub returns-then-not-inside-2 : goal.returns-then-not-inside-2
+pub returns : goal.returns
 unfolding clear
-returns-then-not-inside-2 c = search rules
-
-pub returns-else-not-inside-2 : goal.returns-else-not-inside-2
-unfolding clear
-returns-else-not-inside-2 c = search rules
+returns c =
+    let e = c.args.e.now.value in
+    let rs = c.corners.result in
+    all_from_yields_List (λ r. not (inside e r.value)) _ _ c.all.result c.all.ensures.ran (YieldsList-from_slice rs cc) (λ x b q k. search (rules, tests))
+    ∙ every_through (λ r. not (inside e r)) (λ r. r.value) rs c.corners.ensures

@@ -1,22 +1,15 @@
-use Rattle.std.proofs.Common.{rules}
-use Rattle.rules.specs.Edges.{A, B, C}
+use Rattle.std.proofs.Common.{◌∙◌, rules, tests}
+use Rattle.std.proofs.lemmas.Iterator.{YieldsList-from_slice}
+use Rattle.std.proofs.lemmas.Iterator.Search.{all_from_yields_List}
+use Rattle.exact.proofs.Lists.{every_through}
+use Rattle.rules.specs.Lawful.{clear}
 use Rattle.meeting.specs.Meeting.{clear_of}
-use Rattle.meeting.proofs.Near.{near_edge_lem}
 use Rattle.meeting.proofs.clear.clear_of.Goals as goal
 
-pub clear-requires : goal.clear-requires
-clear-requires c = record { ends = near_edge_lem c.args.s.now c.requires.within_s A; within = c.requires.within_t }
-
-pub clear-requires-then-clear : goal.clear-requires-then-clear
-clear-requires-then-clear c = record { ends = near_edge_lem c.args.s.now c.requires.within_s B; within = c.requires.within_t }
-
-pub clear-requires-then-clear-2 : goal.clear-requires-then-clear-2
-clear-requires-then-clear-2 c = record { ends = near_edge_lem c.args.s.now c.requires.within_s C; within = c.requires.within_t }
-
-pub returns-then-clear-2 : goal.returns-then-clear-2
+pub returns : goal.returns
 unfolding clear_of
-returns-then-clear-2 c = search rules
-
-pub returns-else-clear-2 : goal.returns-else-clear-2
-unfolding clear_of
-returns-else-clear-2 c = search rules
+returns c =
+    let t = c.args.t.now.value in
+    let es = c.edges.result in
+    all_from_yields_List (λ e. clear e.value t) _ _ c.all.result c.all.ensures.ran (YieldsList-from_slice es cc) (λ x b q k. search (rules, tests))
+    ∙ every_through (λ e. clear e t) (λ e. e.value) es c.edges.ensures

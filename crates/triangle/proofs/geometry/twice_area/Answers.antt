@@ -1,22 +1,14 @@
-use Rattle.std.proofs.Common.{◌^◌, ◌≤◌, ◌-ℤ◌, ◌*ℤ◌, nat_abs, sym, ◌∙◌, subst, ap₂, w64, rules}
+use Rattle.std.proofs.Common.{◌-ℤ◌, ◌*ℤ◌, ◌∙◌, ap₂, w64, rules}
 use Rattle.std.proofs.lemmas.Int.{to_z-of_z}
+use Rattle.exact.proofs.Lists.{get_or_through}
+use Rattle.rules.specs.Edges.{vector}
 use Rattle.rules.specs.Triangles.{area2}
-use Rattle.triangle.proofs.Within.{modest_parts}
 use Rattle.triangle.proofs.geometry.twice_area.Goals as goal
 
-pub difference-requires : goal.difference-requires
-difference-requires c = let t = modest_parts c.args.t.now c.requires in search rules
-
-pub difference-requires-2 : goal.difference-requires-2
-difference-requires-2 c = let t = modest_parts c.args.t.now c.requires in search rules
-
-pub returns : goal.returns
+pub returns-clause-value : goal.returns-clause-value
 unfolding area2
-returns c =
-    let back = to_z-of_z w64 c.spanned.result (search rules) in
-    let ab = c.difference.ensures in
-    let ac = c.difference-2.ensures in
-    record {
-      value = back ∙ c.spanned.ensures.value ∙ ap₂ ◌-ℤ◌ (ap₂ ◌*ℤ◌ ab.x ac.y) (ap₂ ◌*ℤ◌ ac.x ab.y);
-      size = subst (λ z. nat_abs z ≤ 2 ^ 33) (sym back) c.spanned.ensures.size;
-    }
+returns-clause-value c =
+    let at = get_or_through (λ p. p.value) c.corners.result c.corners.ensures in
+    let ab = c.difference.ensures ∙ ap₂ vector (at 0 _) (at 1 _) in
+    let ac = c.difference-2.ensures ∙ ap₂ vector (at 0 _) (at 2 _) in
+    to_z-of_z w64 c.spanned.result (search rules) ∙ c.spanned.ensures.value ∙ (λ i. ((ab i).x *ℤ (ac i).y) -ℤ ((ac i).x *ℤ (ab i).y))
