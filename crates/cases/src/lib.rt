@@ -3,7 +3,7 @@
 
 #[cfg(test)]
 mod tests {
-    use energy::numbers::bounds;
+    use energy::numbers::{Bracket, bounds};
     use rules::Point;
 
     const POINTS: [Point; 4] = [
@@ -21,15 +21,12 @@ mod tests {
         ]
     }
 
-    // The lower and the upper number of a square, a field of g at the left and 0 at the right, and a stream of s along the top.
-    fn answer(k: i64, m: i64, g: i64, s: i64) -> Option<(i64, u64)> {
-        bounds(&square(k, m, g), &POINTS, &[g, 0, 0, g], &[0, 0, s, s]).map(|found| (
-            found.lower,
-            found.upper,
-        ))
+    // What is answered for a square, a field of g at the left and 0 at the right, and a stream of s along the top.
+    fn answer(k: i64, m: i64, g: i64, s: i64) -> Option<Bracket> {
+        bounds(&square(k, m, g), &POINTS, &[g, 0, 0, g], &[0, 0, s, s])
     }
 
-    // k, m, g, s, and what is answered
+    // k, m, g, s, and what is answered: the lower and the upper number
     const SQUARES: [(i64, i64, i64, i64, Option<(i64, u64)>); 9] = [
         (1, 1, 16, -16, Some((256, 256))),
         (1, 1, 16, 0, Some((0, 256))),
@@ -45,7 +42,8 @@ mod tests {
     #[test]
     fn squares(rt: HostRuntime) {
         for (k, m, g, s, answered) in SQUARES {
-            assert_eq!(rt; answer(k, m, g, s), answered);
+            let bracket = answered.map(|(lower, upper)| Bracket { lower, upper });
+            assert_eq!(rt; answer(k, m, g, s), bracket);
         }
     }
 }

@@ -1,45 +1,14 @@
 -- The work along the outline, edge by edge. Assumes nothing.
-use Rattle.std.proofs.Common.{◌≡◌, ℕ, ◌+◌, ◌*◌, ◌^◌, ◌≤◌, Bool, true, false, ◌&&◌, List, ◌∷◌, length, ℤ, pos, ◌+ℤ◌, ◌-ℤ◌, ◌*ℤ◌, nat_abs, Some, sym, ap, ◌∙◌, ap₂, arith, lit≤}
+use Rattle.std.proofs.Common.{◌≡◌, ℕ, ◌+◌, ◌*◌, ◌^◌, ◌≤◌, Bool, true, List, ◌∷◌, length, ℤ, pos, ◌+ℤ◌, nat_abs, sym, ap, ◌∙◌, arith}
 use borrow.Author.Differences.{ints}
-use Rattle.std.proofs.lemmas.Bool.{and_from, and_left, and_right}
-use Rattle.exact.specs.Given.{Given}
 use Rattle.exact.specs.Lists.{every, sum_z}
-use Rattle.rules.specs.declared.Edge.{Edge}
 use Rattle.rules.specs.declared.OutlineEdge.{OutlineEdge}
-use Rattle.rules.specs.declared.OutlineEdge.TheVariants.{Closed, Held}
 use Rattle.rules.specs.Bounds.{work_along}
-use Rattle.rules.specs.Limits.{near_value, in_reach_along}
+use Rattle.rules.specs.Limits.{in_reach_along}
 use Rattle.rules.specs.Plates.{Values}
 
 abbrev small : ℤ → Type 0
 small z = nat_abs z ≤ 2 ^ 42
-
--- nothing along a closed edge
-pub closed : (s : Values) (b : OutlineEdge) (e : Edge) → b ≡ Closed e → Given (Some (pos 0)) (in_reach_along s b) (work_along s b) small
-unfolding work_along in_reach_along
-closed s b e is = (ap (in_reach_along s) is, sym (ap (work_along s) is), lit≤ tt)
-
--- along a held edge, of which the numbers g', h', p, q were read: they are near, or not
-module _ (s : Values) (b : OutlineEdge) (e : Edge) (g h g' h' p q : ℤ) (is : b ≡ Held e g h) (eg : g' ≡ g) (eh : h' ≡ h) (ep : p ≡ s e.from) (eq : q ≡ s e.to) where
-  held-test : in_reach_along s b ≡ ((near_value g' && near_value h') && (near_value p && near_value q))
-  unfolding in_reach_along
-  held-test =
-      let both : ℤ → ℤ → Bool = λ y z. near_value y && near_value z in
-      ap (in_reach_along s) is ∙ sym (ap₂ ◌&&◌ (ap₂ both eg eh) (ap₂ both ep eq))
-
-  held-work : work_along s b ≡ (g' +ℤ h') *ℤ (q -ℤ p)
-  unfolding work_along
-  held-work = ap (work_along s) is ∙ sym (ap₂ ◌*ℤ◌ (ap₂ ◌+ℤ◌ eg eh) (ap₂ ◌-ℤ◌ eq ep))
-
-  pub too_hot : (near_value g' && near_value h') ≡ false → in_reach_along s b ≡ false
-  too_hot t = held-test ∙ and_left (near_value g' && near_value h') (near_value p && near_value q) t
-
-  pub too_far : (near_value p && near_value q) ≡ false → in_reach_along s b ≡ false
-  too_far t = held-test ∙ and_right (near_value g' && near_value h') (near_value p && near_value q) t
-
-  pub held : (z : ℤ) → (near_value g' && near_value h') ≡ true → (near_value p && near_value q) ≡ true → z ≡ (g' +ℤ h') *ℤ (q -ℤ p) → small z →
-      Given (Some z) (in_reach_along s b) (work_along s b) small
-  held z t u is-z less = (held-test ∙ and_from (near_value g' && near_value h') (near_value p && near_value q) t u, is-z ∙ sym held-work, less)
 
 -- ---- along some edges, of which `rest` are left: those before came to x
 pub record Turn (s : Values) (test : Bool) (all x : ℤ) (rest : List OutlineEdge) : Type 0 where

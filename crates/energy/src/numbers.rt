@@ -1,7 +1,7 @@
 //! The two numbers.
 ghost use Rattle.std.specs.Prelude.{◌≡◌, false, if◌then◌else◌, Some, None, MatchOption};
 ghost use Rattle.rules.specs.Bounds.{upper as upper_of, lower as lower_of, upper_in_reach, lower_in_reach, both_in_reach, TwoNumbers};
-ghost use Rattle.rules.specs.Numbers.{plate_of, triangles_of};
+ghost use Rattle.rules.specs.Numbers.{plate_of};
 ghost use Rattle.rules.specs.Plates.{values_at};
 ghost use Rattle.energy.specs.Printed.{bracket_text};
 
@@ -14,14 +14,14 @@ use triangle::kinds::Kind;
 impl<'a, V: Values> OnPlate<'a, V> {
     /// The upper number of the values, or `None` where it is out of reach.
     fn upper(&self) -> Option<u64>
-        ensures { result ≡ (if upper_in_reach (V.value self.now.values) (plate_of self.now.plate.numbers.now) then Some (upper_of (V.value self.now.values) (triangles_of self.now.plate.numbers.now)) else None) }
+        ensures { let u = V.value self.now.values in let m = plate_of self.now.plate.numbers.now in result ≡ (if upper_in_reach u m then Some (upper_of u m.triangles) else None) }
     {
         self.total(Kind::Spent)
     }
 
     /// The lower number of the values, or `None` where it is out of reach.
     fn lower(&self) -> Option<i64>
-        ensures { result ≡ (if lower_in_reach (V.value self.now.values) (plate_of self.now.plate.numbers.now) then Some (lower_of (V.value self.now.values) (plate_of self.now.plate.numbers.now)) else None) }
+        ensures { let s = V.value self.now.values in let m = plate_of self.now.plate.numbers.now in result ≡ (if lower_in_reach s m then Some (lower_of s m) else None) }
     {
         let work = self.work()?;
         let drag = self.total(Kind::Dragged)?;
@@ -50,12 +50,12 @@ impl fmt::Display for Bracket {
 pub fn bounds(plate: &[i64], points: &[Point], field: &[i64], stream: &[i64]) -> Option<Bracket>
     ensures { MatchOption result (both_in_reach plate.now (values_at points.now field.now) (values_at points.now stream.now) ≡ false) (λ b. TwoNumbers plate.now (values_at points.now field.now) (values_at points.now stream.now) b.lower b.upper) }
 {
-    let plate = View::read(plate)?;
-    let numbers_on = |numbers| OnPlate {
+    let plate = View::checked(plate)?;
+    let on_plate = |numbers| OnPlate {
         plate,
         values: Listed { points, numbers },
     };
-    let lower = numbers_on(stream).lower()?;
-    let upper = numbers_on(field).upper()?;
+    let lower = on_plate(stream).lower()?;
+    let upper = on_plate(field).upper()?;
     Some(Bracket { lower, upper })
 }

@@ -22,6 +22,7 @@ fn held_work(held: &Within<Ends>, stream: &Within<Ends>) -> i64
 }
 
 /// The work along one outline edge, or `None` where it is out of reach.
+#[tactic(auto, unfolding(rules::specs::Limits::in_reach_along, rules::specs::Bounds::work_along))]
 fn work_along<V: Values>(b: &OutlineEdge, s: &V) -> Option<i64>
     ensures { Given result (in_reach_along (V.value s.now) b.now) (work_along (V.value s.now) b.now) (λ z. unsigned_abs z ≤ 2 ^ 42) }
 {
@@ -46,7 +47,7 @@ impl<'a, V: Values> OnPlate<'a, V> {
 
     /// The work along the whole outline, or `None` where an edge is out of reach.
     pub fn work(&self) -> Option<i64>
-        ensures { Given result (every (in_reach_along (V.value self.now.values)) (outline_of self.now.plate.numbers.now)) (work_of (V.value self.now.values) (outline_of self.now.plate.numbers.now)) (λ z. unsigned_abs z ≤ 2 ^ 58) }
+        ensures { let s = V.value self.now.values in let bs = outline_of self.now.plate.numbers.now in Given result (every (in_reach_along s) bs) (work_of s bs) (λ z. unsigned_abs z ≤ 2 ^ 58) }
     {
         let mut sum = 0;
         for b in self.plate.parts::<OutlineEdge>() {

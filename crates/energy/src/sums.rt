@@ -15,7 +15,7 @@ use triangle::terms::rounded;
 impl<'a, V: Values> OnPlate<'a, V> {
     /// The sum of all triangles' quotients, or `None` where a triangle is out of reach or the sum is too large.
     pub fn total(&self, kind: Kind) -> Option<u64>
-        ensures { result ≡ (if all_in_reach (V.value self.now.values) (triangles_of self.now.plate.numbers.now) then capped (sum_by (λ t. term_of kind t (corners_of (V.value self.now.values) t)) (triangles_of self.now.plate.numbers.now)) else None) }
+        ensures { let u = V.value self.now.values in let ts = triangles_of self.now.plate.numbers.now in result ≡ (if all_in_reach u ts then capped (sum_by (λ t. term_of kind t (corners_of u t)) ts) else None) }
     {
         let mut sum = 0;
         for t in self.plate.parts::<Triangle>() {

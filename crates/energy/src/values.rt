@@ -17,13 +17,12 @@ pub trait Values {
     final fn corners(&self, t: &Triangle) -> Corners
         ensures { result ≡ corners_of (value self.now) t.now }
     {
-        Corners {
-            a: self.at(&t.a),
-            b: self.at(&t.b),
-            c: self.at(&t.c),
-        }
+        let [a, b, c] = t.corners().map(|p| self.at(&p));
+        Corners { a, b, c }
     }
 }
+
+// No `Option`: the definition of this name counts all of them where none is, and `values_at` reads the number at that place.
 
 /// How many points come before the first that is `p`: all of them, where none is.
 fn place_of(p: &Point, points: &[Point]) -> usize
@@ -44,6 +43,7 @@ impl<'p, 'n> Values for Listed<'p, 'n> {
     ghost value = { λ s. values_at s.points.now s.numbers.now };
 
     fn at(&self, p: &Point) -> i64 {
+        // 0 where there is none, as `values_at` says, which the contract of `bounds` names.
         let i = place_of(p, self.points);
         self.numbers.get(i).copied().unwrap_or(0)
     }

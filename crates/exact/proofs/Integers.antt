@@ -1,6 +1,6 @@
 -- The laws of a commutative ring that the library's integers lack. Assumes nothing.
-use Rattle.std.proofs.Common.{◌≡◌, ℕ, ◌+◌, ◌*◌, ℤ, pos, ◌+ℤ◌, ◌*ℤ◌, neg_ℤ, ap, arith}
-use borrow.Author.Differences.{up, down, ints, sum_is_lem, product_is}
+use Rattle.std.proofs.Common.{◌≡◌, ℕ, ◌+◌, ◌*◌, ℤ, pos, ◌+ℤ◌, ◌*ℤ◌, neg_ℤ, nat_abs, ap, arith}
+use borrow.Author.Differences.{up, down, neg_is, ints, sum_is_lem, product_is}
 use lib.IntN.{*ℤ_comm}
 
 pub *ℤ_distrib : (a b c : ℤ) → a *ℤ (b +ℤ c) ≡ (a *ℤ b) +ℤ (a *ℤ c)
@@ -18,6 +18,14 @@ pub *ℤ_assoc : (a b c : ℤ) → (a *ℤ b) *ℤ c ≡ a *ℤ (b *ℤ c)
     let right : (n : ℕ) → (n * up (b *ℤ c) ≡ n * (up b * up c + down b * down c)) × (n * down (b *ℤ c) ≡ n * (up b * down c + down b * up c)) =
     λ n. (ap (λ m. n * m) (product_is b c).0, ap (λ m. n * m) (product_is b c).1) in
     omega (arith, ints, left (up c), left (down c), right (up a), right (down a))
+
+pub neg_ℤ_*ℤ : (a b : ℤ) → neg_ℤ a *ℤ b ≡ neg_ℤ (a *ℤ b)
+neg_ℤ_*ℤ a b =
+    let times : (n : ℕ) → (up (neg_ℤ a) * n ≡ down a * n) × (down (neg_ℤ a) * n ≡ up a * n) = λ n. (ap (λ m. m * n) (neg_is a).0, ap (λ m. m * n) (neg_is a).1) in
+    omega (arith, ints, times (up b), times (down b))
+
+pub nat_abs_neg_ℤ : (a : ℤ) → nat_abs (neg_ℤ a) ≡ nat_abs a
+nat_abs_neg_ℤ a = omega (arith, ints)
 
 -- two sums added term by term
 pub +ℤ_exchange : (a b c d : ℤ) → (a +ℤ b) +ℤ (c +ℤ d) ≡ (a +ℤ c) +ℤ (b +ℤ d)

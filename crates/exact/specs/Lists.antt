@@ -18,5 +18,5 @@ abbrev pub any : {A : Type 0} → (A → Bool) → List A → Bool
 any = list_any
 
 -- of the n elements that f lists, those from index i on
-abbrev pub from : {A : Type 0} → (ℕ → A) → ℕ → ℕ → List A
-from f n i = map f (range_with_len i (n - i))
+abbrev pub listed_from : {A : Type 0} → (ℕ → A) → ℕ → ℕ → List A
+listed_from f n i = map f (range_with_len i (n - i))

@@ -7,7 +7,7 @@ use Rattle.rules.specs.declared.Point.{Point}
 use Rattle.rules.specs.declared.Vector.{Vector}
 use Rattle.rules.specs.Edges.{direction, across, along, inside}
 use Rattle.rules.specs.Plates.{same}
-use Rattle.theory.proofs.Sameness.{same_is, same_from}
+use Rattle.theory.proofs.Sameness.{same_is}
 
 module _ (e : Edge) (r : Point) (d : Vector) (is : d ≡ direction e) where
   module _ (p q : ℤ) (is-p : p ≡ across d r) (is-q : q ≡ across d e.from) where
@@ -20,12 +20,3 @@ module _ (e : Edge) (r : Point) (d : Vector) (is : d ≡ direction e) where
         let d' = direction e in
         let not_same : same p q ≡ false = ⊎_elim (λ t. absurd (differ (same_is p q t))) (λ f. f) (cases_Bool (same p q)) in
         ap (λ b. b && (lt_z (along d' e.from) (along d' r) && lt_z (along d' r) (along d' e.to))) (level ∙ not_same)
-
-    pub on : p ≡ q → (l m h : ℤ) → l ≡ along d e.from → m ≡ along d r → h ≡ along d e.to → inside e r ≡ (lt_z l m && lt_z m h)
-    unfolding inside
-    on eq l m h is-l is_m is-h =
-        let d' = direction e in
-        let low : along d' e.from ≡ l = sym (is-l ∙ ap (λ v. along v e.from) is) in
-        let mid : along d' r ≡ m = sym (is_m ∙ ap (λ v. along v r) is) in
-        let high : along d' e.to ≡ h = sym (is-h ∙ ap (λ v. along v e.to) is) in
-        ap₂ ◌&&◌ (level ∙ same_from p q eq) (ap₂ ◌&&◌ (ap₂ lt_z low mid) (ap₂ lt_z mid high))

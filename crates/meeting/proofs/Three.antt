@@ -1,27 +1,25 @@
--- Which of three is the first to pass a test. Assumes nothing.
-use Rattle.std.proofs.Common.{◌≡◌, ℕ, ◌+◌, ◌<◌, Bool, true, false, cond, not, ◌||◌, ltb, [], ◌∷◌, Some, None, Option, MatchOption, position, sym, refl, subst, lit<}
+-- The first of the three corners at which something stands. Assumes nothing.
+use Rattle.std.proofs.Common.{◌≡◌, Bool, true, false, cond, ◌||◌, [], ◌∷◌, Some, None, Option, MatchOption, find, sym, refl, subst, ◌∙◌}
+use Rattle.std.specs.Option.{option_map}
 use Rattle.exact.specs.Lists.{any}
-use Rattle.rules.specs.Edges.{Corner, A, B, C}
-use Rattle.meeting.specs.Rows.{which}
+use Rattle.rules.specs.declared.Corner.{Corner}
+use Rattle.rules.specs.declared.Corner.TheVariants.{A, B, C}
 
--- how many fail before the first that passes, and its number
-abbrev before : Bool → Bool → Bool → ℕ
-before a b c = cond (not a) (1 + cond (not b) (1 + cond (not c) 1 0) 0) 0
+itself : (r : Option Corner) → option_map (λ i. i) r ≡ r
+itself (Some i) = refl
+itself None = refl
 
-abbrev number : Bool → Bool → Bool → Option ℕ
-number a b c = cond (ltb (before a b c) 3) (Some (before a b c)) None
-
--- of a test that decides whether two are the same: where x stands among the three parts
+-- of a test that decides whether two are the same: whether x is one of three parts, and which
 module _ {X : Type 0} (test : X → X → Bool) (is : (x y : X) → test x y ≡ true → x ≡ y) (x : X) (part : Corner → X) where
   told : (a b c : Bool) → test x (part A) ≡ a → test x (part B) ≡ b → test x (part C) ≡ c →
-      MatchOption (number a b c) ((a || (b || (c || false))) ≡ false) (λ i. (i < 3) × (part (which i) ≡ x) × ((a || (b || (c || false))) ≡ true))
-  told true b c p q r = (lit< tt, sym (is x (part A) p), refl)
-  told false true c p q r = (lit< tt, sym (is x (part B) q), refl)
-  told false false true p q r = (lit< tt, sym (is x (part C) r), refl)
+      MatchOption (cond a (Some A) (cond b (Some B) (cond c (Some C) None))) ((a || (b || (c || false))) ≡ false) (λ i. (part i ≡ x) × ((a || (b || (c || false))) ≡ true))
+  told true b c p q r = (sym (is x (part A) p), refl)
+  told false true c p q r = (sym (is x (part B) q), refl)
+  told false false true p q r = (sym (is x (part C) r), refl)
   told false false false p q r = refl
 
-  pub numbered : (r : Option ℕ) → r ≡ position (test x) (part A ∷ part B ∷ part C ∷ []) →
-      MatchOption r (any (test x) (part A ∷ part B ∷ part C ∷ []) ≡ false) (λ i. (i < 3) × (part (which i) ≡ x) × (any (test x) (part A ∷ part B ∷ part C ∷ []) ≡ true))
-  numbered r e =
-      subst (λ o. MatchOption o (any (test x) (part A ∷ part B ∷ part C ∷ []) ≡ false) (λ i. (i < 3) × (part (which i) ≡ x) × (any (test x) (part A ∷ part B ∷ part C ∷ []) ≡ true)))
-      (sym e) (told (test x (part A)) (test x (part B)) (test x (part C)) refl refl refl)
+  pub found : (r : Option Corner) → option_map (λ i. i) r ≡ find (λ i. test x (part i)) (A ∷ B ∷ C ∷ []) →
+      MatchOption r (any (test x) (part A ∷ part B ∷ part C ∷ []) ≡ false) (λ i. (part i ≡ x) × (any (test x) (part A ∷ part B ∷ part C ∷ []) ≡ true))
+  found r e =
+      subst (λ o. MatchOption o (any (test x) (part A ∷ part B ∷ part C ∷ []) ≡ false) (λ i. (part i ≡ x) × (any (test x) (part A ∷ part B ∷ part C ∷ []) ≡ true)))
+      (sym (sym (itself r) ∙ e)) (told (test x (part A)) (test x (part B)) (test x (part C)) refl refl refl)

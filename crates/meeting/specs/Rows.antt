@@ -4,7 +4,9 @@ use Rattle.std.specs.Prelude.{ℕ, zero, suc, ◌/◌, ◌%◌}
 use Rattle.rules.specs.declared.Edge.{Edge}
 use Rattle.rules.specs.declared.Point.{Point}
 use Rattle.rules.specs.declared.Triangle.{Triangle}
-use Rattle.rules.specs.Edges.{Corner, A, B, C, corner, edge}
+use Rattle.rules.specs.declared.Corner.{Corner}
+use Rattle.rules.specs.declared.Corner.TheVariants.{A, B, C}
+use Rattle.rules.specs.Edges.{corner, edge}
 
 abbrev pub which : ℕ → Corner
 which zero = A

@@ -1,27 +1,24 @@
 //! Whether a direction parts two triangles.
 ghost use Rattle.std.specs.Prelude.{◌≡◌, true, ◌||◌, map, int_le};
 ghost use Rattle.exact.specs.Lists.{every, any};
-ghost use Rattle.rules.specs.Edges.{edges_in, direction as direction_of};
+ghost use Rattle.rules.specs.Edges.{edges_in};
 ghost use Rattle.rules.specs.Lawful.{one_side, parted as parted_by};
 ghost use Rattle.meeting.specs.Heights.{below, axes};
 
 use crate::across::heights;
 use rules::limits::Within;
 use rules::{Triangle, Vector};
-use triangle::direction;
-
-/// Whether no number of a row is below `y`.
-fn below_all(y: i64, v: &[i64]) -> bool
-    ensures { result ≡ every (int_le y) v.now }
-{
-    v.iter().all(|z| y <= *z)
-}
+use triangle::directions;
 
 /// Whether no number of the one row is above one of the other.
 fn below(u: &[i64], v: &[i64]) -> bool
     ensures { result ≡ below u.now v.now }
 {
-    u.iter().all(|y| below_all(*y, v))
+    u.iter().all(
+        |y| -> bool
+            ensures { result ≡ every (int_le y.now) v.entry.now }
+        { v.iter().all(|z| y <= z) },
+    )
 }
 
 /// Whether across the direction no corner of the one lies beyond a corner of the other.
@@ -42,13 +39,6 @@ fn axes() -> [Within<Vector>; 2]
     ]
 }
 
-/// The directions of the edges of a triangle.
-fn directions(t: &Within<Triangle>) -> [Within<Vector>; 3]
-    ensures { map (λ d. d.value) result ≡ map direction_of (edges_in t.now.value) }
-{
-    t.edges().map(|e| direction(&e))
-}
-
 /// Whether one of the directions parts the two.
 fn one_parts(ds: &[Within<Vector>], s: &Within<Triangle>, t: &Within<Triangle>) -> bool
     ensures { result ≡ any (one_side s.now.value t.now.value) (map (λ d. d.value) ds.now) }
@@ -56,24 +46,10 @@ fn one_parts(ds: &[Within<Vector>], s: &Within<Triangle>, t: &Within<Triangle>) 
     ds.iter().any(|d| one_side(s, t, d))
 }
 
-/// Whether an axis parts the two.
-fn axis_parts(s: &Within<Triangle>, t: &Within<Triangle>) -> bool
-    ensures { result ≡ any (one_side s.now.value t.now.value) axes }
-{
-    one_parts(&axes(), s, t)
-}
-
-/// Whether the direction of an edge of `r` parts the two.
-fn edge_parts(r: &Within<Triangle>, s: &Within<Triangle>, t: &Within<Triangle>) -> bool
-    ensures { result ≡ any (one_side s.now.value t.now.value) (map direction_of (edges_in r.now.value)) }
-{
-    one_parts(&directions(r), s, t)
-}
-
 /// Whether an axis or the direction of an edge of one of them parts the two: they have no inner point in common.
 #[tactic(auto, unfolding(rules::specs::Lawful::parted))]
 pub fn parted(s: &Within<Triangle>, t: &Within<Triangle>) -> bool
     ensures { result ≡ parted_by s.now.value t.now.value }
 {
-    axis_parts(s, t) || edge_parts(s, s, t) || edge_parts(t, s, t)
+    one_parts(&axes(), s, t) || one_parts(&directions(s), s, t) || one_parts(&directions(t), s, t)
 }

@@ -10,10 +10,11 @@ use rules::{Edge, Point, Triangle};
 use triangle::direction;
 
 /// Whether a point is on an edge and not at an end of it.
+#[tactic(auto, unfolding(rules::specs::Edges::inside))]
 fn inside(e: &Within<Edge>, r: &Within<Point>) -> bool
     ensures { result ≡ inside_of e.now.value r.now.value }
 {
-    let (d, from, to) = (direction(e), e.from(), e.to());
+    let (d, from, to) = (direction(e), e.start(), e.end());
     if across(&d, r) != across(&d, &from) {
         return false;
     }

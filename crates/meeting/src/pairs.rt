@@ -4,7 +4,7 @@ ghost use Rattle.meeting.specs.Meeting.{unlike, compatible as compatible_with};
 
 use crate::apart::parted;
 use crate::clear::clear_of;
-use crate::parts::edge_number;
+use crate::parts::which_edge;
 use rules::Triangle;
 use rules::limits::Within;
 
@@ -13,7 +13,7 @@ use rules::limits::Within;
 fn unlike_edges(s: &Triangle, t: &Triangle) -> bool
     ensures { result ≡ unlike s.now t.now }
 {
-    s.edges().iter().all(|e| edge_number(e, t).is_none())
+    s.edges().iter().all(|e| which_edge(e, t).is_none())
 }
 
 /// Whether two triangles are parted, no corner of the one lies on an edge of the other, and no directed edge stands in both.

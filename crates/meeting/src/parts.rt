@@ -1,11 +1,13 @@
 //! Which of its corners and edges a triangle has.
-ghost use Rattle.std.specs.Prelude.{◌≡◌, ◌<◌, true, false, MatchOption, position};
+ghost use Rattle.std.specs.Prelude.{◌≡◌, ◌<◌, true, false, MatchOption};
 ghost use Rattle.rules.specs.Edges.{corner, edge as edge_from};
 ghost use Rattle.rules.specs.Plates.{same_point};
 ghost use Rattle.meeting.specs.Meeting.{has_corner, has_edge};
 ghost use Rattle.meeting.specs.Rows.{which};
 
-use rules::{Edge, Point, Triangle};
+use rules::{Corner, Edge, Point, Triangle};
+
+// Public, so it stays; its body is the derived `==`, which it ties to the definitions' word.
 
 /// Whether two points are at one place.
 pub fn same_point(p: &Point, q: &Point) -> bool
@@ -14,25 +16,33 @@ pub fn same_point(p: &Point, q: &Point) -> bool
     p == q
 }
 
-/// Where in a row something first stands, counted from 0.
-fn place_in<T: PartialEq>(x: &T, row: &[T]) -> Option<usize>
-    ensures { result ≡ position (T.eq x.now) row.now }
+// The two below are not one function: one line each, where a trait for what stands at a corner would need its laws, and a closure its
+// `post` in both contracts (tried: the answers stay open).
+
+/// Which corner of a triangle a point is.
+pub fn which_corner(p: &Point, t: &Triangle) -> Option<Corner>
+    ensures { MatchOption result (has_corner p.now t.now ≡ false) (λ i. (corner t.now i ≡ p.now) × (has_corner p.now t.now ≡ true)) }
 {
-    row.iter().position(|y| x == y)
+    Corner::ALL.iter().copied().find(|i| *p == t.corner(*i))
 }
 
-// A number and no enum: corner c of triangle i has the number 3 i + c in a row of triangles.
-
-/// Which corner of a triangle a point is, counted from 0.
-pub fn corner_number(p: &Point, t: &Triangle) -> Option<usize>
-    ensures { MatchOption result (has_corner p.now t.now ≡ false) (λ i. (i < 3) × (corner t.now (which i) ≡ p.now) × (has_corner p.now t.now ≡ true)) }
+/// Which edge of a triangle an edge is, by the corner where it begins.
+pub fn which_edge(e: &Edge, t: &Triangle) -> Option<Corner>
+    ensures { MatchOption result (has_edge e.now t.now ≡ false) (λ i. (edge_from t.now i ≡ e.now) × (has_edge e.now t.now ≡ true)) }
 {
-    place_in(p, &t.corners())
+    Corner::ALL.iter().copied().find(|i| *e == t.edge(*i))
 }
 
-/// Which edge of a triangle an edge is, counted from 0.
-pub fn edge_number(e: &Edge, t: &Triangle) -> Option<usize>
-    ensures { MatchOption result (has_edge e.now t.now ≡ false) (λ i. (i < 3) × (edge_from t.now (which i) ≡ e.now) × (has_edge e.now t.now ≡ true)) }
+// Not a `From`, which would stand in `rules`: `which`, in its contract, is a word of this crate.
+
+/// Which of the three a corner is, counted from 0.
+pub fn number(i: Corner) -> usize
+    ensures below { result < 3 }
+    ensures is { which result ≡ i }
 {
-    place_in(e, &t.edges())
+    match i {
+        Corner::A => 0,
+        Corner::B => 1,
+        Corner::C => 2,
+    }
 }

@@ -1,71 +1,98 @@
-//! Going through the triangles or the outline edges of a plate, in their order.
+//! What stands in a plate's numbers, one after another: triangles and outline edges.
 ghost use Rattle.std.specs.Prelude.{◌≡◌, ℕ, ◌<◌, List, ℤ};
 ghost use Rattle.std.specs.Iterator.{YieldsFirst, item_count};
+ghost use Rattle.exact.specs.Lists.{listed_from};
 ghost use Rattle.rules.specs.Numbers.{triangle_count, triangle_at, outline_count, outline_at};
-ghost use Rattle.plate.specs.Parts.{listed, left};
 
 use crate::view::View;
-use rules::{OutlineEdge, Triangle};
+use rules::{Edge, OutlineEdge, Triangle};
 use std::marker::PhantomData;
+use std::ops::Range;
 
-/// What a plate has a number of, one after another.
+/// What a plate has several of.
 pub trait Part: Sized {
-    ghost number: { List ℤ → ℕ };
+    ghost count: { List ℤ → ℕ };
 
-    ghost read: { List ℤ → ℕ → Self };
+    ghost part_at: { List ℤ → ℕ → Self };
 
-    fn number(plate: &View) -> usize
-        ensures { result ≡ number plate.now.numbers.now };
+    /// How many.
+    fn count(plate: &View) -> usize
+        ensures { result ≡ count plate.now.numbers.now };
 
-    fn read(plate: &View, i: usize) -> Self
-        requires { i < number plate.now.numbers.now }
-        ensures { result ≡ read plate.now.numbers.now i };
+    /// Number `i`.
+    fn part_at(plate: &View, i: usize) -> Self
+        requires { i < count plate.now.numbers.now }
+        ensures { result ≡ part_at plate.now.numbers.now i };
 }
 
 impl Part for Triangle {
-    ghost number = { triangle_count };
+    ghost count = { triangle_count };
 
-    ghost read = { triangle_at };
+    ghost part_at = { triangle_at };
 
-    fn number(plate: &View) -> usize {
+    fn count(plate: &View) -> usize {
         plate.triangles
     }
 
-    fn read(plate: &View, i: usize) -> Triangle {
-        plate.triangle(i)
+    #[tactic(auto, unfolding(rules::specs::Numbers::triangle_at))]
+    fn part_at(plate: &View, i: usize) -> Triangle {
+        let at = 2 + 7 * i;
+        Triangle {
+            a: plate.point(at),
+            b: plate.point(at + 2),
+            c: plate.point(at + 4),
+            k: u64::try_from(plate.numbers[at + 6]).unwrap_or(0),
+        }
     }
 }
 
 impl Part for OutlineEdge {
-    ghost number = { outline_count };
+    ghost count = { outline_count };
 
-    ghost read = { outline_at };
+    ghost part_at = { outline_at };
 
-    fn number(plate: &View) -> usize {
+    fn count(plate: &View) -> usize {
         plate.edges
     }
 
-    fn read(plate: &View, i: usize) -> OutlineEdge {
-        plate.outline(i)
+    #[tactic(auto, unfolding(rules::specs::Numbers::outline_at))]
+    fn part_at(plate: &View, i: usize) -> OutlineEdge {
+        let at = 2 + 7 * (plate.triangles + i);
+        let edge = Edge {
+            from: plate.point(at + 1),
+            to: plate.point(at + 3),
+        };
+        // A kind is a number in the format of calls; here it becomes a variant.
+        if plate.numbers[at] == 1 {
+            OutlineEdge::Held {
+                edge,
+                from: plate.numbers[at + 5],
+                to: plate.numbers[at + 6],
+            }
+        } else {
+            OutlineEdge::Closed { edge }
+        }
     }
 }
 
-/// The parts that are still to come.
+/// The parts of a plate that are still to come.
 #[derive(Drop)]
 pub struct Parts<'a, P: Part> {
     pub plate: View<'a>,
-    pub next: usize,
+    pub places: Range<usize>,
     pub what: PhantomData<P>,
+    ghost whole: { places.end ≡ P.count plate.numbers.now },
 }
 
 impl<'a> View<'a> {
     /// All parts of a kind.
     pub fn parts<P: Part>(&self) -> Parts<'a, P>
-        ensures { left P.number P.read result.plate.numbers.now result.next ≡ listed P.number P.read self.now.numbers.now }
+        ensures plate { result.plate.numbers.now ≡ self.now.numbers.now }
+        ensures all { result.places.start ≡ 0 }
     {
         Parts {
             plate: *self,
-            next: 0,
+            places: 0..P::count(self),
             what: PhantomData,
         }
     }
@@ -74,17 +101,12 @@ impl<'a> View<'a> {
 impl<'a, P: Part> Iterator for Parts<'a, P> {
     type Item = P;
 
-    ghost next_gives = { YieldsFirst (λ s. left P.number P.read s.plate.numbers.now s.next) };
+    ghost next_gives = { YieldsFirst (λ s. listed_from (P.part_at s.plate.numbers.now) (P.count s.plate.numbers.now) s.places.start) };
 
-    ghost remaining = { item_count (λ s. left P.number P.read s.plate.numbers.now s.next) };
+    ghost remaining = { item_count (λ s. listed_from (P.part_at s.plate.numbers.now) (P.count s.plate.numbers.now) s.places.start) };
 
     fn next(&mut self) -> Option<P> {
-        if self.next < P::number(&self.plate) {
-            let part = P::read(&self.plate, self.next);
-            self.next += 1;
-            Some(part)
-        } else {
-            None
-        }
+        let i = self.places.next()?;
+        Some(P::part_at(&self.plate, i))
     }
 }

@@ -5,7 +5,8 @@ ghost use Rattle.rules.specs.Numbers.{triangle_count, outline_count};
 /// A plate that is read out of the numbers that it was lent as.
 #[derive(Clone, Copy)]
 pub struct View<'a> {
-    // The counts stand beside the numbers, since calls lend a plate as one row; its first two numbers are these counts, signed.
+    // One row and two counts, since calls lend a plate so: they are its first two numbers, read once. Rows of seven (`as_chunks`) would be no
+    // plainer: the definitions read by the place in the one row, and each read would have to be led back to it.
     pub numbers: &'a [i64],
     /// how many triangles
     pub triangles: usize,

@@ -1,16 +1,12 @@
 -- Corners and edges of a triangle, directions, and where a point lies by them. Assumes nothing.
 use Rattle.std.specs.Prelude.{Bool, ◌&&◌, List, [], ◌∷◌, ℤ, ◌+ℤ◌, ◌-ℤ◌, ◌*ℤ◌, int_lt}
 use Rattle.rules.specs.declared.Point.{Point}
+use Rattle.rules.specs.declared.Corner.{Corner}
+use Rattle.rules.specs.declared.Corner.TheVariants.{A, B, C}
 use Rattle.rules.specs.declared.Edge.{Edge}
 use Rattle.rules.specs.declared.Triangle.{Triangle}
 use Rattle.rules.specs.declared.Vector.{Vector}
 use Rattle.rules.specs.Plates.{same, same_point}
-
--- which of the three corners
-pub data Corner : Type 0 where
-  A : Corner
-  B : Corner
-  C : Corner
 
 -- the one that follows, against the clock
 abbrev pub next : Corner → Corner

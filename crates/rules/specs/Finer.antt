@@ -7,7 +7,9 @@ use Rattle.rules.specs.declared.Edge.{Edge}
 use Rattle.rules.specs.declared.Triangle.{Triangle}
 use Rattle.rules.specs.declared.OutlineEdge.{OutlineEdge}
 use Rattle.rules.specs.declared.OutlineEdge.TheVariants.{Closed, Held}
-use Rattle.rules.specs.Edges.{Corner, A, B, C, corner}
+use Rattle.rules.specs.declared.Corner.{Corner}
+use Rattle.rules.specs.declared.Corner.TheVariants.{A, B, C}
+use Rattle.rules.specs.Edges.{corner}
 use Rattle.rules.specs.Parts.{middle, twice, at_a, at_b, at_c, between, part}
 use Rattle.rules.specs.Plates.{Plate, PointValue, Values, same_point}
 

@@ -6,7 +6,8 @@ use Rattle.rules.specs.declared.Point.{Point}
 use Rattle.rules.specs.declared.Triangle.{Triangle}
 use Rattle.rules.specs.declared.Corners.{Corners}
 use Rattle.rules.specs.Bounds.{upper_in, up_drag_in}
-use Rattle.rules.specs.Edges.{Corner, corner}
+use Rattle.rules.specs.declared.Corner.{Corner}
+use Rattle.rules.specs.Edges.{corner}
 use Rattle.rules.specs.Plates.{Plate, same_point, among, points_of, values_at, values_of}
 use Rattle.rules.specs.Triangles.{area2, proper, turned, norm, spent_in, drag_in, around}
 use Rattle.rules.specs.Parts.{Part, part, carried_to}

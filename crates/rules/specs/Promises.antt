@@ -8,7 +8,8 @@ use Rattle.rules.specs.declared.Edge.{Edge}
 use Rattle.rules.specs.declared.Triangle.{Triangle}
 use Rattle.rules.specs.declared.OutlineEdge.TheVariants.{Closed}
 use Rattle.rules.specs.Bounds.{upper, up_drag, work, lower}
-use Rattle.rules.specs.Edges.{Corner, corner, edge, direction, across}
+use Rattle.rules.specs.declared.Corner.{Corner}
+use Rattle.rules.specs.Edges.{corner, edge, direction, across}
 use Rattle.rules.specs.Energy.{is_field, is_stream, spent, says}
 use Rattle.rules.specs.Finer.{finer, finest, Carried, carried}
 use Rattle.rules.specs.Lawful.{lawful, parted}

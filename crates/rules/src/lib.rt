@@ -36,6 +36,14 @@ pub struct Edge {
     pub to: Point,
 }
 
+/// Which corner of a triangle, against the clock.
+#[derive(Clone, Copy, PartialEq, Eq)]
+pub enum Corner {
+    A,
+    B,
+    C,
+}
+
 /// A triangle, its corners against the clock, and its conductivity k.
 #[derive(Clone, Copy)]
 pub struct Triangle {
@@ -44,6 +52,8 @@ pub struct Triangle {
     pub c: Point,
     pub k: u64,
 }
+
+// Not an edge with an `Option` of temperatures: the definitions and the theorems name the two kinds.
 
 /// An edge of the outline, directed as its triangle has it: closed to heat, or held at a temperature at each end.
 #[derive(Clone, Copy)]

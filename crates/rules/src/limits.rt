@@ -1,5 +1,6 @@
 //! The limits, and what is known to be within them.
 ghost use Rattle.std.specs.Prelude.{◌≡◌, Bool, true, false, ◌&&◌, MatchOption};
+ghost use Rattle.exact.specs.Lists.{every};
 ghost use Rattle.rules.specs.Limits.{near, near_point, near_edge, modest, near_corners, short};
 
 use crate::{
@@ -21,6 +22,13 @@ pub trait Limited: Copy {
         ensures { result ≡ within self.now };
 }
 
+/// Whether all of some values are within their limits.
+fn all_within<T: Limited>(values: &[T]) -> bool
+    ensures { result ≡ every T.within values.now }
+{
+    values.iter().all(|x| x.is_within())
+}
+
 impl Limited for Point {
     ghost within = { near_point };
 
@@ -33,7 +41,7 @@ impl Limited for Edge {
     ghost within = { near_edge };
 
     fn is_within(&self) -> bool {
-        self.from.is_within() && self.to.is_within()
+        all_within(&[self.from, self.to])
     }
 }
 
@@ -42,7 +50,7 @@ impl Limited for Triangle {
 
     #[tactic(auto, unfolding(crate::specs::Limits::modest))]
     fn is_within(&self) -> bool {
-        self.a.is_within() && self.b.is_within() && self.c.is_within() && self.k < CONDUCTIVITY_END
+        all_within(&self.corners()) && self.k < CONDUCTIVITY_END
     }
 }
 
@@ -50,11 +58,11 @@ impl Limited for Corners {
     ghost within = { near_corners };
 
     fn is_within(&self) -> bool {
-        near(MAX_VALUE, self.a) && near(MAX_VALUE, self.b) && near(MAX_VALUE, self.c)
+        [self.a, self.b, self.c].iter().all(|z| near(MAX_VALUE, *z))
     }
 }
 
-/// A direction: the way from a point within the limits to another, or shorter.
+/// As a direction: the way from a point within the limits to another, or shorter. (A gradient has a limit of its own, `gentle`.)
 impl Limited for Vector {
     ghost within = { short };
 
@@ -75,11 +83,7 @@ impl<T: Limited> Within<T> {
     pub fn new(value: T) -> Option<Within<T>>
         ensures { MatchOption result (T.within value ≡ false) (λ w. (w.value ≡ value) × (T.within value ≡ true)) }
     {
-        if value.is_within() {
-            Some(Within { value })
-        } else {
-            None
-        }
+        value.is_within().then(|| Within::known(value))
     }
 
     /// The value, which is known to be within its limits.

@@ -1,41 +1,73 @@
 //! The corners and edges of a triangle, and the ends of an edge.
 ghost use Rattle.std.specs.Prelude.{◌≡◌, map};
-ghost use Rattle.rules.specs.Edges.{corners_in, edges_in};
+ghost use Rattle.rules.specs.Edges.{next, corner, edge, corners_in, edges_in};
 
 use crate::limits::Within;
-use crate::{Edge, Point, Triangle};
+use crate::{Corner, Edge, Point, Triangle};
+
+impl Corner {
+    /// All three.
+    pub const ALL: [Corner; 3] = [Corner::A, Corner::B, Corner::C];
+
+    /// The one that follows.
+    pub fn next(self) -> Corner
+        ensures { result ≡ next self }
+    {
+        match self {
+            Corner::A => Corner::B,
+            Corner::B => Corner::C,
+            Corner::C => Corner::A,
+        }
+    }
+}
 
 impl Triangle {
+    /// One corner.
+    pub fn corner(&self, i: Corner) -> Point
+        ensures { result ≡ corner self.now i }
+    {
+        match i {
+            Corner::A => self.a,
+            Corner::B => self.b,
+            Corner::C => self.c,
+        }
+    }
+
+    /// The directed edge that begins at a corner.
+    pub fn edge(&self, i: Corner) -> Edge
+        ensures { result ≡ edge self.now i }
+    {
+        Edge {
+            from: self.corner(i),
+            to: self.corner(i.next()),
+        }
+    }
+
     /// The corners, against the clock.
     pub fn corners(&self) -> [Point; 3]
         ensures { result ≡ corners_in self.now }
     {
-        [self.a, self.b, self.c]
+        Corner::ALL.map(|i| self.corner(i))
     }
 
     /// The directed edges, each from a corner to the next.
     pub fn edges(&self) -> [Edge; 3]
         ensures { result ≡ edges_in self.now }
     {
-        let edge = |from, to| Edge { from, to };
-        [
-            edge(self.a, self.b),
-            edge(self.b, self.c),
-            edge(self.c, self.a),
-        ]
+        Corner::ALL.map(|i| self.edge(i))
     }
 }
 
 impl Within<Edge> {
     /// Where it begins.
-    pub fn from(&self) -> Within<Point>
+    pub fn start(&self) -> Within<Point>
         ensures { result.value ≡ self.now.value.from }
     {
         Within::known(self.value.from)
     }
 
     /// Where it ends.
-    pub fn to(&self) -> Within<Point>
+    pub fn end(&self) -> Within<Point>
         ensures { result.value ≡ self.now.value.to }
     {
         Within::known(self.value.to)
@@ -43,6 +75,9 @@ impl Within<Edge> {
 }
 
 impl Within<Triangle> {
+    // Not one function with those of `Triangle`, which cannot say that the parts are within the limits. A `map` of `known` was tried: its
+    // closure does not know which part it is given.
+
     /// The corners, against the clock.
     #[tactic(auto, unfolding(crate::specs::Limits::modest))]
     pub fn corners(&self) -> [Within<Point>; 3]

@@ -9,7 +9,9 @@ use Rattle.rules.specs.declared.Point.{Point}
 use Rattle.rules.specs.declared.Triangle.{Triangle}
 use Rattle.rules.specs.Bounds.{upper, lower}
 use Rattle.rules.specs.Calls.{AnswersBracket, FinerTaken, CarriedTaken, CarriedFourTimes}
-use Rattle.rules.specs.Edges.{Corner, A, B, C, corner}
+use Rattle.rules.specs.declared.Corner.{Corner}
+use Rattle.rules.specs.declared.Corner.TheVariants.{A, B, C}
+use Rattle.rules.specs.Edges.{corner}
 use Rattle.rules.specs.Energy.{is_field, is_stream}
 use Rattle.rules.specs.Finer.{finer, finest, Carried, carried, parts}
 use Rattle.rules.specs.Lawful.{lawful}

@@ -6,7 +6,9 @@ use Rattle.exact.proofs.Certificates.{◌≼◌, ◌≺◌, hyp, lit, ◌⊞◌,
 use Rattle.exact.proofs.Mixes.{Mix, alone, mixed}
 use Rattle.exact.proofs.Order.{product_above}
 use Rattle.exact.proofs.Ring.{Expr, var, con, ◌⊕◌, ◌⊗◌, ◌⊝◌, solve}
-use Rattle.rules.specs.Edges.{Corner, A, B, C, next}
+use Rattle.rules.specs.declared.Corner.{Corner}
+use Rattle.rules.specs.declared.Corner.TheVariants.{A, B, C}
+use Rattle.rules.specs.Edges.{next}
 use Rattle.theory.proofs.Corners.{prev, near}
 use Rattle.theory.proofs.Threes.{highest, sum}
 

@@ -19,7 +19,8 @@ use Rattle.rules.specs.declared.Vector.{Vector}
 use Rattle.rules.specs.declared.OutlineEdge.{OutlineEdge}
 use Rattle.rules.specs.declared.OutlineEdge.TheVariants.{Closed, Held}
 use Rattle.rules.specs.Bounds.{upper_in, up_drag_in, upper, up_drag, work, work_along}
-use Rattle.rules.specs.Edges.{A, B, C, next}
+use Rattle.rules.specs.declared.Corner.TheVariants.{A, B, C}
+use Rattle.rules.specs.Edges.{next}
 use Rattle.rules.specs.Energy.{is_field, is_stream, has, keeps, spent, drag, says}
 use Rattle.rules.specs.Finer.{parts, halves, finer, Carried}
 use Rattle.rules.specs.Lawful.{edge_of, outline_edges, held, held_ends}

@@ -7,7 +7,9 @@ use Rattle.std.proofs.lemmas.Bool.{cases_Bool, cond-true, cond-false}
 use Rattle.exact.proofs.Members.{flat_map_member, member_flat_map}
 use Rattle.rules.specs.declared.Point.{Point}
 use Rattle.rules.specs.declared.Triangle.{Triangle}
-use Rattle.rules.specs.Edges.{Corner, A, B, C, next, corner}
+use Rattle.rules.specs.declared.Corner.{Corner}
+use Rattle.rules.specs.declared.Corner.TheVariants.{A, B, C}
+use Rattle.rules.specs.Edges.{next, corner}
 use Rattle.rules.specs.Finer.{sum_at, sums_in, first_at, carried}
 use Rattle.rules.specs.Parts.{middle}
 use Rattle.rules.specs.Plates.{Plate, PointValue, Values, same_point}

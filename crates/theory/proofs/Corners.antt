@@ -11,7 +11,9 @@ use Rattle.exact.proofs.Ring.{Expr, con, ◌⊕◌, ◌⊗◌, ◌⊝◌, ⊖◌
 use Rattle.rules.specs.declared.Point.{Point}
 use Rattle.rules.specs.declared.Triangle.{Triangle}
 use Rattle.rules.specs.declared.Vector.{Vector}
-use Rattle.rules.specs.Edges.{Corner, A, B, C, next, corner, edge, direction, vector, across}
+use Rattle.rules.specs.declared.Corner.{Corner}
+use Rattle.rules.specs.declared.Corner.TheVariants.{A, B, C}
+use Rattle.rules.specs.Edges.{next, corner, edge, direction, vector, across}
 use Rattle.rules.specs.Parts.{middle}
 use Rattle.rules.specs.Triangles.{area2, proper}
 use Rattle.theory.proofs.Plane.{Pair, pair, Across, Along, To, Straight, squared}

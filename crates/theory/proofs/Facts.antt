@@ -8,7 +8,9 @@ use Rattle.exact.proofs.Members.{every_out, count_one, flat_map_member, member_f
 use Rattle.rules.specs.declared.Point.{Point}
 use Rattle.rules.specs.declared.Edge.{Edge}
 use Rattle.rules.specs.declared.Triangle.{Triangle}
-use Rattle.rules.specs.Edges.{Corner, A, B, C, corner, edge, corners_in, edges_in, back, same_edge, inside}
+use Rattle.rules.specs.declared.Corner.{Corner}
+use Rattle.rules.specs.declared.Corner.TheVariants.{A, B, C}
+use Rattle.rules.specs.Edges.{corner, edge, corners_in, edges_in, back, same_edge, inside}
 use Rattle.rules.specs.Lawful.{edges, outline_edges, times, paired, outlined, held, agree, one_temperature, apart, parted, clear, all_clear, lawful}
 use Rattle.rules.specs.Plates.{Plate, PointValue}
 use Rattle.rules.specs.Triangles.{proper}

@@ -11,7 +11,9 @@ use Rattle.exact.proofs.Order.{*ℤ_≤ℤ}
 use Rattle.exact.proofs.Ring.{var, ◌⊕◌, ◌⊗◌, solve}
 use Rattle.rules.specs.declared.Triangle.{Triangle}
 use Rattle.rules.specs.declared.Vector.{Vector}
-use Rattle.rules.specs.Edges.{Corner, A, B, C, next, corner, edge, edges_in, direction, across}
+use Rattle.rules.specs.declared.Corner.{Corner}
+use Rattle.rules.specs.declared.Corner.TheVariants.{A, B, C}
+use Rattle.rules.specs.Edges.{next, corner, edge, edges_in, direction, across}
 use Rattle.rules.specs.Finer.{parts}
 use Rattle.rules.specs.Lawful.{before, one_side, directions, parted, apart}
 use Rattle.rules.specs.Parts.{Part, at_a, at_b, at_c, between, part, middle}

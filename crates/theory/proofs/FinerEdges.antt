@@ -10,7 +10,8 @@ use Rattle.rules.specs.declared.Edge.{Edge}
 use Rattle.rules.specs.declared.Triangle.{Triangle}
 use Rattle.rules.specs.declared.OutlineEdge.{OutlineEdge}
 use Rattle.rules.specs.declared.OutlineEdge.TheVariants.{Closed, Held}
-use Rattle.rules.specs.Edges.{Corner, next, corner, edge, edges_in, back, same_edge}
+use Rattle.rules.specs.declared.Corner.{Corner}
+use Rattle.rules.specs.Edges.{next, corner, edge, edges_in, back, same_edge}
 use Rattle.rules.specs.Finer.{parts, half1, half2, halves, finer}
 use Rattle.rules.specs.Lawful.{edges, edge_of, outline_edges, times, paired, outlined}
 use Rattle.rules.specs.Parts.{middle, twice}

@@ -11,7 +11,8 @@ use Rattle.rules.specs.declared.Edge.{Edge}
 use Rattle.rules.specs.declared.Triangle.{Triangle}
 use Rattle.rules.specs.declared.OutlineEdge.{OutlineEdge}
 use Rattle.rules.specs.declared.OutlineEdge.TheVariants.{Closed, Held}
-use Rattle.rules.specs.Edges.{Corner, next, corner, corners_in, back, inside}
+use Rattle.rules.specs.declared.Corner.{Corner}
+use Rattle.rules.specs.Edges.{next, corner, corners_in, back, inside}
 use Rattle.rules.specs.Finer.{parts, half1, half2, halves, finer}
 use Rattle.rules.specs.Lawful.{edges, edge_of, outline_edges, times, paired, outlined, held_ends, held, agree, one_temperature, apart, clear, all_clear, lawful}
 use Rattle.rules.specs.Parts.{Part, part, middle, twice}

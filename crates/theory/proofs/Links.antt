@@ -8,7 +8,9 @@ use Rattle.exact.proofs.Members.{count_map, count_cong, count_none, count_some, 
 use Rattle.rules.specs.declared.Point.{Point}
 use Rattle.rules.specs.declared.Edge.{Edge}
 use Rattle.rules.specs.declared.Triangle.{Triangle}
-use Rattle.rules.specs.Edges.{Corner, A, B, C, next, corner, edge, edges_in, back, same_edge, direction, across}
+use Rattle.rules.specs.declared.Corner.{Corner}
+use Rattle.rules.specs.declared.Corner.TheVariants.{A, B, C}
+use Rattle.rules.specs.Edges.{next, corner, edge, edges_in, back, same_edge, direction, across}
 use Rattle.rules.specs.Lawful.{edges, times}
 use Rattle.rules.specs.Plates.{Plate}
 use Rattle.rules.specs.Triangles.{proper}

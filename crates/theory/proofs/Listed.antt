@@ -1,5 +1,7 @@
 -- A listed point is found at its own place, and no two points of a plate are the same. Assumes nothing.
-use Rattle.std.proofs.Common.{◌≡◌, false, List, [], ◌∷◌, ◌++◌, get_or, AllPairs, le_of_lt, pos, fold, ap, ◌∙◌, arith}
+use mathlib.Core.List.Memᴰ
+use mathlib.Core.List.{Memᴰ}
+use Rattle.std.proofs.Common.{◌≡◌, ℕ, zero, suc, ◌<◌, false, length, refl, List, [], ◌∷◌, ◌++◌, get_or, AllPairs, le_of_lt, pos, fold, ap, ◌∙◌, arith}
 use Rattle.std.proofs.lemmas.List.Folds.{list_any_at}
 use Rattle.std.proofs.lemmas.List.Quantifiers.{all_pairs_push}
 use Rattle.std.proofs.lemmas.List.Sums.{position_or_len_is}
@@ -17,6 +19,11 @@ values_listed ps zs i d h first = ap (λ k. get_or zs k (pos 0)) (position_or_le
 -- ---- no two points of a plate are the same
 Distinct : List Point → Type 0
 Distinct ps = AllPairs (λ p q. same_point q p ≡ false) ps
+
+pub get_or_in : (ps : List Point) (i : ℕ) (d : Point) → i < length ps → Memᴰ (get_or ps i d) ps
+get_or_in [] i d h = absurd (omega arith)
+get_or_in (p ∷ ps) zero d h = Memᴰ.head refl
+get_or_in (p ∷ ps) (suc i) d h = Memᴰ.tail (get_or_in ps i d (omega arith))
 
 distinct_more : (ps : List Point) (p : Point) → Distinct ps → among p ps ≡ false → Distinct (ps ++ p ∷ [])
 unfolding Distinct

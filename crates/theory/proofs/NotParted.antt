@@ -13,7 +13,9 @@ use Rattle.exact.proofs.Ring.{var, con, ◌⊕◌, ◌⊗◌, ◌⊝◌}
 use Rattle.rules.specs.declared.Point.{Point}
 use Rattle.rules.specs.declared.Triangle.{Triangle}
 use Rattle.rules.specs.declared.Vector.{Vector}
-use Rattle.rules.specs.Edges.{Corner, A, B, C, next, corner, edge, edges_in, direction}
+use Rattle.rules.specs.declared.Corner.{Corner}
+use Rattle.rules.specs.declared.Corner.TheVariants.{A, B, C}
+use Rattle.rules.specs.Edges.{next, corner, edge, edges_in, direction}
 use Rattle.rules.specs.Lawful.{before, one_side, directions, parted}
 use Rattle.rules.specs.Promises.{InnerPoint, NotPartedMeans}
 use Rattle.rules.specs.Triangles.{area2, proper}

@@ -7,7 +7,9 @@ use Rattle.exact.proofs.Ring.{Expr, var, con, ◌⊕◌, ◌⊗◌, ◌⊝◌, �
 use Rattle.rules.specs.declared.Point.{Point}
 use Rattle.rules.specs.declared.Triangle.{Triangle}
 use Rattle.rules.specs.declared.Vector.{Vector}
-use Rattle.rules.specs.Edges.{Corner, A, B, C, corner, edge, direction, across}
+use Rattle.rules.specs.declared.Corner.{Corner}
+use Rattle.rules.specs.declared.Corner.TheVariants.{A, B, C}
+use Rattle.rules.specs.Edges.{corner, edge, direction, across}
 use Rattle.rules.specs.Promises.{InnerPoint, PartedMeans}
 use Rattle.rules.specs.Triangles.{area2, proper}
 use Rattle.theory.proofs.Corners.{Area, prev, area_above, not_flat}

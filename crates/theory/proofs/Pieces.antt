@@ -7,7 +7,9 @@ use Rattle.exact.proofs.Members.{one, count_ones, count_map}
 use Rattle.rules.specs.declared.Point.{Point}
 use Rattle.rules.specs.declared.Edge.{Edge}
 use Rattle.rules.specs.declared.Triangle.{Triangle}
-use Rattle.rules.specs.Edges.{Corner, A, B, C, next, edge, edges_in, same_edge}
+use Rattle.rules.specs.declared.Corner.{Corner}
+use Rattle.rules.specs.declared.Corner.TheVariants.{A, B, C}
+use Rattle.rules.specs.Edges.{next, edge, edges_in, same_edge}
 use Rattle.rules.specs.Finer.{parts}
 use Rattle.rules.specs.Parts.{twice}
 use Rattle.theory.proofs.Corners.{prev, mid}

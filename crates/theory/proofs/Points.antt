@@ -9,7 +9,9 @@ use Rattle.exact.specs.Lists.{any}
 use Rattle.exact.proofs.Members.{any_out, any_in}
 use Rattle.rules.specs.declared.Point.{Point}
 use Rattle.rules.specs.declared.Triangle.{Triangle}
-use Rattle.rules.specs.Edges.{Corner, A, B, C, corner}
+use Rattle.rules.specs.declared.Corner.{Corner}
+use Rattle.rules.specs.declared.Corner.TheVariants.{A, B, C}
+use Rattle.rules.specs.Edges.{corner}
 use Rattle.rules.specs.Laws.{PointsAreCorners}
 use Rattle.rules.specs.Plates.{Values, same_point, place_of, among, noted, corners_noted, values_at}
 use Rattle.theory.proofs.Sameness.{point_is, same_point_refl}

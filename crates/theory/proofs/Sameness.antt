@@ -1,5 +1,7 @@
 -- The tests whether two numbers, points or edges are the same decide it. Assumes nothing.
-use Rattle.std.proofs.Common.{◌≡◌, Bool, true, false, ℤ, sym, refl, ap, ◌∙◌, arith}
+use Rattle.std.proofs.Common.{◌≡◌, Bool, true, false, ◌&&◌, ℤ, sym, refl, ap, ◌∙◌, arith}
+use borrow.Author.Differences.{ints}
+use lib.Signed.{le_z}
 use Rattle.std.specs.Cmp.{both_ways}
 use Rattle.std.proofs.lemmas.Bool.{and_parts, and_from, false_from_ne_true}
 use Rattle.std.proofs.lemmas.Bool.Decides.{Decides-int_eq}
@@ -7,6 +9,12 @@ use Rattle.rules.specs.declared.Point.{Point}
 use Rattle.rules.specs.declared.Edge.{Edge}
 use Rattle.rules.specs.Edges.{back, same_edge}
 use Rattle.rules.specs.Plates.{same, same_point}
+
+-- ---- the test of two numbers is that each is at most the other
+pub same_both_ways : (y z : ℤ) → same y z ≡ (le_z y z && le_z z y)
+same_both_ways y z =
+    both_ways (same y z) (le_z y z && le_z z y) (λ t. let e = (Decides-int_eq y z).0 t in and_from (le_z y z) (le_z z y) (grind (arith, ints)) (grind (arith, ints)))
+    (λ t. let both = and_parts (le_z y z) (le_z z y) t in let le = both.0 in let ge = both.1 in (Decides-int_eq y z).1 (grind (arith, ints)))
 
 -- ---- the test passes on one thing twice
 pub same_from : (y z : ℤ) → y ≡ z → same y z ≡ true

@@ -10,7 +10,8 @@ use Rattle.exact.proofs.Members.{every_in, any_out}
 use Rattle.rules.specs.declared.Point.{Point}
 use Rattle.rules.specs.declared.Triangle.{Triangle}
 use Rattle.rules.specs.declared.Vector.{Vector}
-use Rattle.rules.specs.Edges.{Corner, corner, corners_in, edges_in, direction, across}
+use Rattle.rules.specs.declared.Corner.{Corner}
+use Rattle.rules.specs.Edges.{corner, corners_in, edges_in, direction, across}
 use Rattle.rules.specs.Lawful.{before, one_side, directions, parted}
 use Rattle.rules.specs.Triangles.{proper}
 use Rattle.theory.proofs.Corners.{straight_edge}

@@ -6,7 +6,8 @@ use Rattle.exact.proofs.Ring.{Expr, var, con, ◌⊕◌, ◌⊗◌, ◌⊝◌, s
 use Rattle.rules.specs.declared.Point.{Point}
 use Rattle.rules.specs.declared.Triangle.{Triangle}
 use Rattle.rules.specs.declared.Vector.{Vector}
-use Rattle.rules.specs.Edges.{Corner, next, corner, edge, direction, vector, across}
+use Rattle.rules.specs.declared.Corner.{Corner}
+use Rattle.rules.specs.Edges.{next, corner, edge, direction, vector, across}
 use Rattle.rules.specs.Triangles.{area2, proper}
 use Rattle.theory.proofs.Corners.{Area, prev, level, higher, none_below}
 use Rattle.theory.proofs.Parted.{rise, Rise}

@@ -3,7 +3,9 @@ use Rattle.std.proofs.Common.{◌≡◌, ℤ, pos, ◌+ℤ◌, ◌*ℤ◌, ◌�
 use borrow.Author.Differences.{ints}
 use Rattle.std.proofs.lemmas.Int.{by_lt_z}
 use Rattle.exact.proofs.Order.{nought}
-use Rattle.rules.specs.Edges.{Corner, A, B, C, next}
+use Rattle.rules.specs.declared.Corner.{Corner}
+use Rattle.rules.specs.declared.Corner.TheVariants.{A, B, C}
+use Rattle.rules.specs.Edges.{next}
 use Rattle.theory.proofs.Corners.{prev, near}
 
 pub each : (P : Corner → Type 0) (k : Corner) → P k → P (next k) → P (prev k) → (i : Corner) → P i

@@ -1,9 +1,9 @@
 //! Differences of points, and the area of a triangle.
-ghost use Rattle.std.specs.Prelude.{◌≡◌, ◌^◌, ◌<◌, ◌≤◌, ◌-ℤ◌, ◌*ℤ◌, unsigned_abs};
-ghost use Rattle.rules.specs.Edges.{vector, direction as direction_of};
+ghost use Rattle.std.specs.Prelude.{◌≡◌, ◌^◌, ◌<◌, ◌≤◌, true, false, map, unsigned_abs, MatchOption};
+ghost use Rattle.rules.specs.Edges.{vector, edges_in, direction as direction_of};
 ghost use Rattle.rules.specs.Triangles.{area2, proper};
-ghost use Rattle.exact.specs.Given.{Given};
 
+use crate::measures::Area;
 use exact::product;
 use rules::limits::Within;
 use rules::{Edge, Point, Triangle, Vector};
@@ -23,19 +23,17 @@ pub fn difference(from: &Within<Point>, to: &Within<Point>) -> Within<Vector>
 pub fn direction(e: &Within<Edge>) -> Within<Vector>
     ensures { result.value ≡ direction_of e.now.value }
 {
-    difference(&e.from(), &e.to())
+    difference(&e.start(), &e.end())
 }
 
-// Of two ways, where `meeting::across` is of a way and a point: one function would turn the point into a way at each call.
-
-/// Twice the area of the triangle that two ways from one corner span, with its sign.
-fn spanned(v: &Within<Vector>, w: &Within<Vector>) -> i64
-    ensures value { result ≡ (v.now.value.x *ℤ w.now.value.y) -ℤ (w.now.value.x *ℤ v.now.value.y) }
-    ensures size { unsigned_abs result ≤ 2 ^ 33 }
+/// The ways along the edges of a triangle.
+pub fn directions(t: &Within<Triangle>) -> [Within<Vector>; 3]
+    ensures { map (λ d. d.value) result ≡ map direction_of (edges_in t.now.value) }
 {
-    let (v, w) = (v.value, w.value);
-    product(v.x, w.y) - product(w.x, v.y)
+    t.edges().map(|e| direction(&e))
 }
+
+// The product of `across` in `meeting`, which takes a point where this has a way: one function would turn the point into a way each time.
 
 /// Twice the area of a triangle, above 0 where its corners go against the clock.
 fn twice_area(t: &Within<Triangle>) -> i64
@@ -43,16 +41,20 @@ fn twice_area(t: &Within<Triangle>) -> i64
     ensures size { unsigned_abs result ≤ 2 ^ 33 }
 {
     let [a, b, c] = t.corners();
-    spanned(&difference(&a, &b), &difference(&a, &c))
+    let (ab, ac) = (difference(&a, &b).value, difference(&a, &c).value);
+    product(ab.x, ac.y) - product(ac.x, ab.y)
 }
 
 /// Twice the area of a triangle, or `None` where it is not proper.
-pub fn proper_area(t: &Within<Triangle>) -> Option<u64>
-    ensures { Given result (proper t.now.value) (unsigned_abs (area2 t.now.value)) (λ n. (0 < n) × (n ≤ 2 ^ 33) × (0 < t.now.value.k)) }
+pub fn proper_area(t: &Within<Triangle>) -> Option<Area>
+    ensures { MatchOption result (proper t.now.value ≡ false) (λ area. (proper t.now.value ≡ true) × (area.twice ≡ unsigned_abs (area2 t.now.value)) × (0 < t.now.value.k)) }
 {
     let area = twice_area(t);
+    // Not `then`: its closure does not know the test, so the invariant of `Area` stays open.
     if area > 0 && t.value.k > 0 {
-        Some(area.unsigned_abs())
+        Some(Area {
+            twice: area.unsigned_abs(),
+        })
     } else {
         None
     }

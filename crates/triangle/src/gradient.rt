@@ -1,14 +1,16 @@
 //! The turned gradient of values over a triangle, and the square of its length.
-ghost use Rattle.std.specs.Prelude.{◌≡◌, ◌^◌, ◌<◌, true, ◌+ℤ◌, ◌*ℤ◌};
+ghost use Rattle.std.specs.Prelude.{◌≡◌, true, false, ◌+ℤ◌, ◌*ℤ◌, MatchOption};
 ghost use Rattle.rules.specs.Limits.{gentle};
 ghost use Rattle.rules.specs.Triangles.{turned, norm as norm_of};
-ghost use Rattle.exact.specs.Given.{Given};
 ghost use Rattle.triangle.specs.Short.{Short};
 
-use crate::geometry::direction;
+use crate::geometry::directions;
+use crate::measures::Square;
 use exact::product;
 use rules::limits::Within;
 use rules::{Corners, GRADIENT_END, Triangle, Vector};
+
+// Three products by hand: a chain's `sum` of signed numbers has no bound that the proof could use.
 
 /// One coordinate of the turned gradient: each value times that of the edge opposite its corner.
 fn weighed(u: &Within<Corners>, opposite: &Corners) -> i64
@@ -23,12 +25,9 @@ fn weighed(u: &Within<Corners>, opposite: &Corners) -> i64
 pub fn turned_gradient(t: &Within<Triangle>, u: &Within<Corners>) -> Vector
     ensures { result ≡ turned t.now.value u.now.value }
 {
-    let [ab, bc, ca] = t.edges();
-    let (ab, bc, ca) = (
-        direction(&ab).value,
-        direction(&bc).value,
-        direction(&ca).value,
-    );
+    let [ab, bc, ca] = directions(t);
+    let (ab, bc, ca) = (ab.value, bc.value, ca.value);
+    // By hand: each corner's value goes with the edge opposite, which in a row would be a turn by one and no plainer.
     let x = Corners {
         a: bc.x,
         b: ca.x,
@@ -45,23 +44,16 @@ pub fn turned_gradient(t: &Within<Triangle>, u: &Within<Corners>) -> Vector
     }
 }
 
-/// The square of the length of a vector that is not too steep.
+/// The square of a vector's length, or `None` where it is too steep.
 #[tactic(auto, unfolding(rules::specs::Triangles::norm))]
-fn squared(v: &Vector) -> u64
-    requires { gentle v.now ≡ true }
-    ensures is { result ≡ norm_of v.now }
-    ensures small { result < 2 ^ 61 }
+pub fn squared_length(v: &Vector) -> Option<Square>
+    ensures { MatchOption result (gentle v.now ≡ false) (λ square. (gentle v.now ≡ true) × (square.value ≡ norm_of v.now)) }
 {
     let (x, y) = (v.x.unsigned_abs(), v.y.unsigned_abs());
-    x * x + y * y
-}
-
-/// The square of a vector's length, or `None` where it is too steep.
-pub fn squared_length(v: &Vector) -> Option<u64>
-    ensures { Given result (gentle v.now) (norm_of v.now) (λ n. n < 2 ^ 61) }
-{
-    if v.x.unsigned_abs() < GRADIENT_END && v.y.unsigned_abs() < GRADIENT_END {
-        Some(squared(v))
+    if x < GRADIENT_END && y < GRADIENT_END {
+        Some(Square {
+            value: x * x + y * y,
+        })
     } else {
         None
     }

@@ -4,6 +4,7 @@
 mod geometry;
 mod gradient;
 pub mod kinds;
+mod measures;
 pub mod terms;
 
-pub use geometry::{difference, direction};
+pub use geometry::{difference, direction, directions};

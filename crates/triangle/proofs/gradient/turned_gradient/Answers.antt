@@ -1,46 +1,43 @@
-use Rattle.std.proofs.Common.{◌≡◌, ◌^◌, ◌≤◌, ℤ, ◌+ℤ◌, ◌-ℤ◌, ◌*ℤ◌, nat_abs, ap, ◌∙◌, ap₂, w64, SFits, rules}
+use Rattle.std.proofs.Common.{◌≡◌, ◌^◌, true, ℤ, ◌+ℤ◌, ◌-ℤ◌, ◌*ℤ◌, get_or, ap, ◌∙◌, ap₂, lit<, w64, SFits, rules}
 use Rattle.std.proofs.lemmas.Int.{to_z-of_z}
 use Rattle.exact.proofs.Lists.{get_or_through}
-use Rattle.exact.proofs.Machine.{back, operand, operand_size}
+use Rattle.exact.proofs.Machine.{Operand, back, operand_size}
 use Rattle.rules.specs.declared.Corners.{Corners}
-use Rattle.rules.specs.Edges.{direction}
+use Rattle.rules.specs.declared.Vector.{Vector}
+use Rattle.rules.specs.Limits.{short}
 use Rattle.rules.specs.Triangles.{turned, weighed}
-use Rattle.rules.proofs.Within.{short_lem}
+use Rattle.rules.proofs.Within.{operands}
 use Rattle.triangle.proofs.gradient.turned_gradient.Goals as goal
 
-size : (z : ℤ) → SFits w64 z → nat_abs z ≤ 2 ^ 16 → nat_abs (back z) ≤ 2 ^ 16
-size z fits h = operand_size (operand z (2 ^ 16) fits h)
+second : (v : Vector) → short v ≡ true → Operand (back v.y) v.y (2 ^ 16)
+second v e = (operands (2 ^ 16) v.x v.y (lit< tt) e).1
 
 pub weighed-requires-2 : goal.weighed-requires-2
 weighed-requires-2 c =
-    let ab = c.direction.result in
-    let bc = c.direction-2.result in
-    let ca = c.direction-3.result in
-    record {
-      a = size bc.value.y (search rules) (short_lem bc.value bc.within).1;
-      b = size ca.value.y (search rules) (short_lem ca.value ca.within).1;
-      c = size ab.value.y (search rules) (short_lem ab.value ab.within).1;
-    }
+    let ab = get_or c.directions.result 0 c.index-directions-0.result in
+    let bc = get_or c.directions.result 1 c.index-directions-1.result in
+    let ca = get_or c.directions.result 2 c.index-directions-2.result in
+    record { a = operand_size (second bc.value bc.within); b = operand_size (second ca.value ca.within); c = operand_size (second ab.value ab.within) }
 
 -- one coordinate, of which p, q, s are the corners' and bc, ca, ab the edges'
-coordinate : (u : Corners) (p q s bc ca ab r : ℤ) → SFits w64 bc → SFits w64 ca → SFits w64 ab → SFits w64 r →
-    r ≡ (u.a *ℤ back bc) +ℤ ((u.b *ℤ back ca) +ℤ (u.c *ℤ back ab)) → bc ≡ s -ℤ q → ca ≡ p -ℤ s → ab ≡ q -ℤ p → back r ≡ weighed u p q s
+coordinate : (u : Corners) (p q s bc ca ab r : ℤ) → SFits w64 r → back bc ≡ s -ℤ q → back ca ≡ p -ℤ s → back ab ≡ q -ℤ p →
+    r ≡ (u.a *ℤ back bc) +ℤ ((u.b *ℤ back ca) +ℤ (u.c *ℤ back ab)) → back r ≡ weighed u p q s
 unfolding weighed
-coordinate u p q s bc ca ab r f g h k e is-bc is-ca is-ab =
-    to_z-of_z w64 r k ∙ e
-    ∙ ap₂ ◌+ℤ◌ (ap (λ z. u.a *ℤ z) (to_z-of_z w64 bc f ∙ is-bc)) (ap₂ ◌+ℤ◌ (ap (λ z. u.b *ℤ z) (to_z-of_z w64 ca g ∙ is-ca)) (ap (λ z. u.c *ℤ z) (to_z-of_z w64 ab h ∙ is-ab)))
+coordinate u p q s bc ca ab r k is-bc is-ca is-ab e =
+    to_z-of_z w64 r k ∙ e ∙ ap₂ ◌+ℤ◌ (ap (λ z. u.a *ℤ z) is-bc) (ap₂ ◌+ℤ◌ (ap (λ z. u.b *ℤ z) is-ca) (ap (λ z. u.c *ℤ z) is-ab))
 
 pub returns : goal.returns
 unfolding turned
 returns c =
     let t = c.args.t.now.value in
     let u = c.args.u.now.value in
-    let at = get_or_through (λ e. e.value) c.edges.result c.edges.ensures in
-    let ab = c.direction.ensures ∙ ap direction (at 0 _) in
-    let bc = c.direction-2.ensures ∙ ap direction (at 1 _) in
-    let ca = c.direction-3.ensures ∙ ap direction (at 2 _) in
-    let x = coordinate u t.a.x t.b.x t.c.x c.direction-2.result.value.x c.direction-3.result.value.x c.direction.result.value.x c.weighed.result (search rules) (search rules)
-    (search rules) (search rules) c.weighed.ensures (ap (λ v. v.x) bc) (ap (λ v. v.x) ca) (ap (λ v. v.x) ab) in
-    let y = coordinate u t.a.y t.b.y t.c.y c.direction-2.result.value.y c.direction-3.result.value.y c.direction.result.value.y c.weighed-2.result (search rules) (search rules)
-    (search rules) (search rules) c.weighed-2.ensures (ap (λ v. v.y) bc) (ap (λ v. v.y) ca) (ap (λ v. v.y) ab) in
+    let ab = get_or c.directions.result 0 c.index-directions-0.result in
+    let bc = get_or c.directions.result 1 c.index-directions-1.result in
+    let ca = get_or c.directions.result 2 c.index-directions-2.result in
+    let at = get_or_through (λ d. d.value) c.directions.result c.directions.ensures in
+    let of_ab = operands (2 ^ 16) ab.value.x ab.value.y (lit< tt) ab.within in
+    let of_bc = operands (2 ^ 16) bc.value.x bc.value.y (lit< tt) bc.within in
+    let of_ca = operands (2 ^ 16) ca.value.x ca.value.y (lit< tt) ca.within in
+    let x = coordinate u t.a.x t.b.x t.c.x bc.value.x ca.value.x ab.value.x c.weighed.result (search rules) (of_bc.0.is ∙ ap (λ v. v.x) (at 1 _)) (of_ca.0.is ∙ ap (λ v. v.x) (at 2 _)) (of_ab.0.is ∙ ap (λ v. v.x) (at 0 _)) c.weighed.ensures in
+    let y = coordinate u t.a.y t.b.y t.c.y bc.value.y ca.value.y ab.value.y c.weighed-2.result (search rules) (of_bc.1.is ∙ ap (λ v. v.y) (at 1 _)) (of_ca.1.is ∙ ap (λ v. v.y) (at 2 _)) (of_ab.1.is ∙ ap (λ v. v.y) (at 0 _)) c.weighed-2.ensures in
     λ i. record { x = x i; y = y i }

@@ -1,7 +1,9 @@
-use Rattle.std.proofs.Common.{◌^◌, ◌≤◌, length, nat_abs, ap, refl, ◌∙◌, arith, lit<, rules, to_z, w64}
+use Rattle.std.proofs.Common.{◌^◌, ◌≤◌, length, map, nat_abs, ap, refl, ◌∙◌, arith, lit<, rules, to_z, w64}
 use Rattle.std.proofs.lemmas.List.FromFn.{length-map-range_with_len}
+use native.Mathlib.Nat.{sub-zero}
+use Rattle.std.specs.List.{range_with_len}
+use Rattle.exact.specs.Lists.{listed_from}
 use Rattle.exact.proofs.Machine.{operand, sum}
-use Rattle.plate.specs.Parts.{left}
 use Rattle.rules.specs.Numbers.{outline_at, outline_of, outline_count}
 use Rattle.energy.proofs.Works.{begun, room, one_more}
 use Rattle.energy.proofs.values.OnPlate.work.Goals as goal
@@ -12,8 +14,10 @@ loop-b-init g c =
     let zs = plate.numbers.now in
     let count = length-map-range_with_len (outline_at zs) 0 (outline_count zs) in
     let few : length (outline_of zs) ≤ 65536 = omega (arith, count, plate.few, plate.edges_counted) in
+    let parts = c.parts-b-items.ensures in
     begun (g.V.Values.value c.args.self.now.values)
-    (ap (λ it. left outline_count outline_at it.plate.numbers.now it.next) c.into_iter-b-iterator.ensures.into_iter_gives ∙ c.parts-b-items.ensures) few
+    (ap (λ it. listed_from (outline_at it.plate.numbers.now) (outline_count it.plate.numbers.now) it.places.start) c.into_iter-b-iterator.ensures.into_iter_gives
+    ∙ (λ i. listed_from (outline_at (parts.plate i)) (outline_count (parts.plate i)) (parts.all i)) ∙ ap (λ n. map (outline_at zs) (range_with_len 0 n)) (sub-zero (outline_count zs))) few
 
 pub loop-b-preserved : goal.loop-b-preserved
 loop-b-preserved g c =

@@ -1,5 +1,4 @@
-use Rattle.exact.specs.Lists.{every, sum_z}
-use Rattle.plate.specs.Parts.{left}
+use Rattle.exact.specs.Lists.{every, sum_z, listed_from}
 use Rattle.rules.specs.Bounds.{work_along}
 use Rattle.rules.specs.Limits.{in_reach_along}
 use Rattle.rules.specs.Numbers.{outline_count, outline_at, outline_of}
@@ -10,4 +9,4 @@ abbrev pub invariant-loop-b : goal.invariant-loop-b
 invariant-loop-b g l =
     let bs = outline_of l.self.plate.numbers.now in
     let s = g.V.Values.value l.self.values in
-    Turn s (every (in_reach_along s) bs) (sum_z (work_along s) bs) l.sum (left outline_count outline_at l.b-iterator.plate.numbers.now l.b-iterator.next)
+    Turn s (every (in_reach_along s) bs) (sum_z (work_along s) bs) l.sum (listed_from (outline_at l.b-iterator.plate.numbers.now) (outline_count l.b-iterator.plate.numbers.now) l.b-iterator.places.start)
