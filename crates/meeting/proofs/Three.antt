@@ -1,11 +1,12 @@
 -- The first of the three corners at which something stands. Assumes nothing.
-use Rattle.std.proofs.Common.{◌≡◌, Bool, true, false, cond, ◌||◌, [], ◌∷◌, Some, None, Option, MatchOption, find, sym, refl, subst, ◌∙◌}
+use Rattle.std.proofs.Common.{◌≡◌, Bool, true, false, cond, ◌||◌, [], ◌∷◌, Some, None, Option, MatchOption, find, sym, refl, subst}
 use Rattle.std.specs.Option.{option_map}
 use Rattle.exact.specs.Lists.{any}
 use Rattle.rules.specs.declared.Corner.{Corner}
 use Rattle.rules.specs.declared.Corner.TheVariants.{A, B, C}
+use Rattle.rules.specs.Edges.{each_corner}
 
-itself : (r : Option Corner) → option_map (λ i. i) r ≡ r
+pub itself : (r : Option Corner) → option_map (λ i. i) r ≡ r
 itself (Some i) = refl
 itself None = refl
 
@@ -18,8 +19,8 @@ module _ {X : Type 0} (test : X → X → Bool) (is : (x y : X) → test x y ≡
   told false false true p q r = (sym (is x (part C) r), refl)
   told false false false p q r = refl
 
-  pub found : (r : Option Corner) → option_map (λ i. i) r ≡ find (λ i. test x (part i)) (A ∷ B ∷ C ∷ []) →
+  pub found : (r : Option Corner) → r ≡ find (λ i. test x (part i)) each_corner →
       MatchOption r (any (test x) (part A ∷ part B ∷ part C ∷ []) ≡ false) (λ i. (part i ≡ x) × (any (test x) (part A ∷ part B ∷ part C ∷ []) ≡ true))
   found r e =
       subst (λ o. MatchOption o (any (test x) (part A ∷ part B ∷ part C ∷ []) ≡ false) (λ i. (part i ≡ x) × (any (test x) (part A ∷ part B ∷ part C ∷ []) ≡ true)))
-      (sym (sym (itself r) ∙ e)) (told (test x (part A)) (test x (part B)) (test x (part C)) refl refl refl)
+      (sym e) (told (test x (part A)) (test x (part B)) (test x (part C)) refl refl refl)

@@ -14,6 +14,9 @@ next A = B
 next B = C
 next C = A
 
+abbrev pub each_corner : List Corner
+each_corner = A ∷ B ∷ C ∷ []
+
 abbrev pub corner : Triangle → Corner → Point
 corner t A = t.a
 corner t B = t.b

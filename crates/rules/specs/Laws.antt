@@ -1,5 +1,5 @@
 -- What is promised of one triangle, and of values in a row. Each is a type; a proof of it is the theorem. Assumes nothing.
-use Rattle.std.specs.Prelude.{◌≡◌, ℕ, ◌<◌, true, false, List, length, ℤ, pos, ◌+ℤ◌, ◌-ℤ◌, ◌*ℤ◌, slice_index_or}
+use Rattle.std.specs.Prelude.{◌≡◌, ℕ, ◌<◌, true, false, ◌&&◌, List, length, ℤ, pos, ◌+ℤ◌, ◌-ℤ◌, ◌*ℤ◌, int_le, slice_index_or}
 use mathlib.Core.List.{Memᴰ}
 use Rattle.exact.specs.Fractions.{whole, ◌+F◌, ◌≤F◌}
 use Rattle.rules.specs.declared.Point.{Point}
@@ -8,9 +8,13 @@ use Rattle.rules.specs.declared.Corners.{Corners}
 use Rattle.rules.specs.Bounds.{upper_in, up_drag_in}
 use Rattle.rules.specs.declared.Corner.{Corner}
 use Rattle.rules.specs.Edges.{corner}
-use Rattle.rules.specs.Plates.{Plate, same_point, among, points_of, values_at, values_of}
+use Rattle.rules.specs.Plates.{Plate, same, same_point, among, points_of, values_at, values_of}
 use Rattle.rules.specs.Triangles.{area2, proper, turned, norm, spent_in, drag_in, around}
 use Rattle.rules.specs.Parts.{Part, part, carried_to}
+
+-- two numbers are the same just where each is at most the other
+abbrev pub SameBothWays : Type 0
+SameBothWays = (y z : ℤ) → same y z ≡ (int_le y z && int_le z y)
 
 abbrev pub square : ℤ → ℤ
 square z = z *ℤ z

@@ -10,7 +10,7 @@ impl Corner {
     pub const ALL: [Corner; 3] = [Corner::A, Corner::B, Corner::C];
 
     /// The one that follows.
-    pub fn next(self) -> Corner
+    fn next(self) -> Corner
         ensures { result ≡ next self }
     {
         match self {

@@ -1,10 +1,15 @@
 //! The theorems, each named in the contract of a function, so that a check asks for its proof.
 #![tactic(auto)]
 
-ghost use Rattle.rules.specs.Laws.{Cross, Squares, LocalLaw, PartsAlike, RoundedUp, ValuesListed, PointsListed, PointsAreCorners};
+ghost use Rattle.rules.specs.Laws.{SameBothWays, Cross, Squares, LocalLaw, PartsAlike, RoundedUp, ValuesListed, PointsListed, PointsAreCorners};
 ghost use Rattle.rules.specs.Promises.{Below, DenominatorsAbove, FinerLawful, CarriedThere, FieldsCarried, StreamsCarried, HoweverFine, Printed, Between, PrintedCarried, Bracketed, PartedMeans, NotPartedMeans, GroupsJoined, GroupsKept, GroupsAlike};
 ghost use Rattle.rules.specs.Calls.{ReadAsWritten, AnswersBracket, FinerTaken, CarriedTaken, CarriedFourTimes};
 ghost use Rattle.rules.specs.Table.{TableHolds};
+
+/// Two numbers are the same, as the definitions test it, just where each is at most the other.
+pub fn same_numbers_are_at_most_each_other()
+    ensures { SameBothWays }
+{}
 
 /// What a field spends and a stream drags in one triangle add up to at least their exchange along its edges.
 pub fn law_of_one_triangle()

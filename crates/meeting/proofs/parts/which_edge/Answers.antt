@@ -1,12 +1,11 @@
-use Rattle.std.proofs.Common.{[], ◌∷◌, rules, tests}
+use Rattle.std.proofs.Common.{sym, ◌∙◌, rules, tests}
 use Rattle.std.proofs.lemmas.Iterator.{YieldsList-from_slice}
 use Rattle.std.proofs.lemmas.Iterator.Consumers.{YieldsList-from_copied}
 use Rattle.std.proofs.lemmas.Iterator.Search.{find_from_yields_List}
-use Rattle.rules.specs.declared.Corner.TheVariants.{A, B, C}
-use Rattle.rules.specs.Edges.{edge, same_edge}
+use Rattle.rules.specs.Edges.{each_corner, edge, same_edge}
 use Rattle.theory.proofs.Sameness.{edge_is}
 use Rattle.meeting.specs.Meeting.{has_edge}
-use Rattle.meeting.proofs.Three.{found}
+use Rattle.meeting.proofs.Three.{itself, found}
 use Rattle.meeting.proofs.parts.which_edge.Goals as goal
 
 pub returns : goal.returns
@@ -14,5 +13,7 @@ unfolding has_edge same_edge
 returns c =
     let e = c.args.e.now in
     let t = c.args.t.now in
-    found same_edge edge_is e (edge t) c.find.result
-    (find_from_yields_List (λ i. same_edge e (edge t i)) _ _ c.find.result c.find.ensures.ran (YieldsList-from_copied (YieldsList-from_slice (A ∷ B ∷ C ∷ []) cc)) (λ i b q k. search (rules, tests)))
+    let first =
+    sym (itself c.find.result)
+    ∙ find_from_yields_List (λ i. same_edge e (edge t i)) _ _ c.find.result c.find.ensures.ran (YieldsList-from_copied (YieldsList-from_slice each_corner cc)) (λ i b q k. search (rules, tests)) in
+    record { first = first; is = found same_edge edge_is e (edge t) c.find.result first }
