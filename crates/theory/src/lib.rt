@@ -7,7 +7,7 @@ ghost use Rattle.rules.specs.Calls.{ReadAsWritten, AnswersBracket, FinerTaken, C
 ghost use Rattle.rules.specs.Table.{TableHolds};
 
 /// Two numbers are the same, as the definitions test it, just where each is at most the other.
-pub fn same_numbers_are_at_most_each_other()
+pub fn equal_numbers_are_at_most_each_other()
     ensures { SameBothWays }
 {}
 

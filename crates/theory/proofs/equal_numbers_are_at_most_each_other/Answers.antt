@@ -1,5 +1,5 @@
 use Rattle.theory.proofs.Sameness.{same_both_ways}
-use Rattle.theory.proofs.same_numbers_are_at_most_each_other.Goals as goal
+use Rattle.theory.proofs.equal_numbers_are_at_most_each_other.Goals as goal
 
 pub returns : goal.returns
 returns c = same_both_ways
