@@ -33,7 +33,6 @@ module _ {A : Type 0} where
   sum_f_whole f (x ∷ xs) = ap (λ p. whole (f x) +F p) (sum_f_whole f xs) ∙ whole_+F (f x) (sum_z f xs)
 
   -- two sums are in order, or the same number, where their terms are
-
   pub sum_f_≤F : (f g : A → Fraction) (xs : List A) → ((x : A) → Memᴰ x xs → f x ≤F g x) → sum_f f xs ≤F sum_f g xs
   sum_f_≤F f g [] h = ≤F_refl (whole (pos 0))
   sum_f_≤F f g (x ∷ xs) h =

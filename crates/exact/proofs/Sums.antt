@@ -29,7 +29,6 @@ module _ {A : Type 0} where
   sum_z_zero (x ∷ xs) = ap (λ n. pos 0 +ℤ n) (sum_z_zero xs)
 
   -- two sums are equal where their terms are
-
   pub sum_z_cong_mem : {f g : A → ℤ} (xs : List A) → ((x : A) → Memᴰ x xs → f x ≡ g x) → sum_z f xs ≡ sum_z g xs
   sum_z_cong_mem [] h = refl
   sum_z_cong_mem (x ∷ xs) h =

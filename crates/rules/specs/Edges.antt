@@ -14,6 +14,7 @@ next A = B
 next B = C
 next C = A
 
+-- the three of them
 abbrev pub each_corner : List Corner
 each_corner = A ∷ B ∷ C ∷ []
 

@@ -9,12 +9,12 @@ use Rattle.rules.specs.declared.Point.{Point}
 use Rattle.rules.specs.declared.Triangle.{Triangle}
 use Rattle.rules.specs.declared.Corner.{Corner}
 use Rattle.rules.specs.declared.Corner.TheVariants.{A, B, C}
-use Rattle.rules.specs.Edges.{next, corner}
+use Rattle.rules.specs.Edges.{each_corner, next, corner}
 use Rattle.rules.specs.Finer.{sum_at, sums_in, first_at, carried}
 use Rattle.rules.specs.Parts.{middle}
 use Rattle.rules.specs.Plates.{Plate, PointValue, Values, same_point}
 use Rattle.rules.specs.Promises.{CarriedThere}
-use Rattle.theory.proofs.Facts.{Facts, facts, corners, index_in}
+use Rattle.theory.proofs.Facts.{Facts, facts, index_in}
 use Rattle.theory.proofs.Halves.{twice_is}
 use Rattle.theory.proofs.Meetings.{In, SameSum, corner_or_middle, no_middle, same_middle}
 use Rattle.theory.proofs.Sameness.{point_is, same_point_from}
@@ -35,10 +35,10 @@ sum_out u t p m =
     (at.0.0, at.0.1, sym at.2)
 
 corner_sum : (u : Values) (t : Triangle) (i : Corner) → Memᴰ (sum_at u t i i) (sums_in u t)
-corner_sum u t i = Memᴰ.append_left (map (λ j. sum_at u t j (next j)) corners) (Memᴰ.map (λ j. sum_at u t j j) (index_in i))
+corner_sum u t i = Memᴰ.append_left (map (λ j. sum_at u t j (next j)) each_corner) (Memᴰ.map (λ j. sum_at u t j j) (index_in i))
 
 middle_sum : (u : Values) (t : Triangle) (i : Corner) → Memᴰ (sum_at u t i (next i)) (sums_in u t)
-middle_sum u t i = Memᴰ.append_right (map (λ j. sum_at u t j j) corners) (Memᴰ.map (λ j. sum_at u t j (next j)) (index_in i))
+middle_sum u t i = Memᴰ.append_right (map (λ j. sum_at u t j j) each_corner) (Memᴰ.map (λ j. sum_at u t j (next j)) (index_in i))
 
 module _ (m : Plate) (known : Facts m) (u : Values) where
   -- two sums at one place are equal

@@ -10,7 +10,7 @@ use Rattle.rules.specs.declared.Edge.{Edge}
 use Rattle.rules.specs.declared.Triangle.{Triangle}
 use Rattle.rules.specs.declared.Corner.{Corner}
 use Rattle.rules.specs.declared.Corner.TheVariants.{A, B, C}
-use Rattle.rules.specs.Edges.{corner, edge, corners_in, edges_in, back, same_edge, inside}
+use Rattle.rules.specs.Edges.{each_corner, corner, edge, corners_in, edges_in, back, same_edge, inside}
 use Rattle.rules.specs.Lawful.{edges, outline_edges, times, paired, outlined, held, agree, one_temperature, apart, parted, clear, all_clear, lawful}
 use Rattle.rules.specs.Plates.{Plate, PointValue}
 use Rattle.rules.specs.Triangles.{proper}
@@ -30,10 +30,7 @@ pub record Facts (m : Plate) : Type 0 where
   pub is_clear : (e : Edge) (t : Triangle) (i : Corner) → Memᴰ e (edges m.triangles) → Memᴰ t m.triangles → inside e (corner t i) ≡ false
 
 -- ---- an edge of the plate is the edge of a triangle
-abbrev pub corners : List Corner
-corners = A ∷ B ∷ C ∷ []
-
-pub index_in : (i : Corner) → Memᴰ i corners
+pub index_in : (i : Corner) → Memᴰ i each_corner
 index_in A = Memᴰ.head refl
 index_in B = Memᴰ.tail (Memᴰ.head refl)
 index_in C = Memᴰ.tail (Memᴰ.tail (Memᴰ.head refl))
@@ -46,7 +43,7 @@ unfolding edges
 edge_in ts t i m = member_flat_map edges_in ts t (edge t i) m (edge_among t i)
 
 pub edge_index : (t : Triangle) (e : Edge) → Memᴰ e (edges_in t) → (i : Corner) × (e ≡ edge t i)
-edge_index t e m = let at = Memᴰ.of_map (edge t) corners m in (at.0, sym at.2)
+edge_index t e m = let at = Memᴰ.of_map (edge t) each_corner m in (at.0, sym at.2)
 
 pub edge_out : (ts : List Triangle) (e : Edge) → Memᴰ e (edges ts) → (t : Triangle) × (i : Corner) × Memᴰ t ts × (e ≡ edge t i)
 unfolding edges
@@ -56,7 +53,7 @@ edge_out ts e m =
     (at.0, which.0, at.1, which.1)
 
 pub corner_out : (t : Triangle) (p : Point) → Memᴰ p (corners_in t) → (i : Corner) × (p ≡ corner t i)
-corner_out t p m = let at = Memᴰ.of_map (corner t) corners m in (at.0, sym at.2)
+corner_out t p m = let at = Memᴰ.of_map (corner t) each_corner m in (at.0, sym at.2)
 
 -- ---- two triangles of the plate are one, or parted
 apart_out : (ts : List Triangle) → apart ts ≡ true → (s t : Triangle) → Memᴰ s ts → Memᴰ t ts → (s ≡ t) ⊎ ((parted s t ≡ true) ⊎ (parted t s ≡ true))

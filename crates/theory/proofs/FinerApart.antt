@@ -13,13 +13,13 @@ use Rattle.rules.specs.declared.Triangle.{Triangle}
 use Rattle.rules.specs.declared.Vector.{Vector}
 use Rattle.rules.specs.declared.Corner.{Corner}
 use Rattle.rules.specs.declared.Corner.TheVariants.{A, B, C}
-use Rattle.rules.specs.Edges.{next, corner, edge, edges_in, direction, across}
+use Rattle.rules.specs.Edges.{each_corner, next, corner, edge, edges_in, direction, across}
 use Rattle.rules.specs.Finer.{parts}
 use Rattle.rules.specs.Lawful.{before, one_side, directions, parted, apart}
 use Rattle.rules.specs.Parts.{Part, at_a, at_b, at_c, between, part, middle}
 use Rattle.rules.specs.Triangles.{area2, proper}
 use Rattle.theory.proofs.Corners.{level, higher, area_above}
-use Rattle.theory.proofs.Facts.{corners, index_in, edge_among, edge_index}
+use Rattle.theory.proofs.Facts.{index_in, edge_among, edge_index}
 use Rattle.theory.proofs.Plane.{opposite, across_middle}
 use Rattle.theory.proofs.Separated.{Sides, before_in, before_out, sides_opposite}
 
@@ -186,12 +186,12 @@ part_height t k p i =
 
 -- part q lies below part p, as seen from edge k
 abbrev lower : Corner → Part → Part → Bool
-lower k q p = every (λ i. every (λ j. leb (height k q i) (height k p j)) corners) corners
+lower k q p = every (λ i. every (λ j. leb (height k q i) (height k p j)) each_corner) each_corner
 
 own_sides : (t : Triangle) → proper t ≡ true → (k : Corner) (q p : Part) → lower k q p ≡ true → Sides (direction (edge t k)) (part q t) (part p t)
 own_sides t ok k q p h i j =
     let test : Corner → Corner → Bool = λ i j. leb (height k q i) (height k p j) in
-    let le = leb-true (height k q i) (height k p j) (every_out (test i) corners (every_out (λ i. every (test i) corners) corners h i (index_in i)) j (index_in j)) in
+    let le = leb-true (height k q i) (height k p j) (every_out (test i) each_corner (every_out (λ i. every (test i) each_corner) each_corner h i (index_in i)) j (index_in j)) in
     let area = area_above t ok in
     let scaled = *ℤ_≤ℤ (area2 t) {a = pos (height k q i)} {b = pos (height k p j)} (omega (arith, ints)) (omega (arith, ints)) in
     let left = part_height t k q i in

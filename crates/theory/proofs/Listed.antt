@@ -1,5 +1,4 @@
 -- A listed point is found at its own place, and no two points of a plate are the same. Assumes nothing.
-use mathlib.Core.List.Memᴰ
 use mathlib.Core.List.{Memᴰ}
 use Rattle.std.proofs.Common.{◌≡◌, ℕ, zero, suc, ◌<◌, false, length, refl, List, [], ◌∷◌, ◌++◌, get_or, AllPairs, le_of_lt, pos, fold, ap, ◌∙◌, arith}
 use Rattle.std.proofs.lemmas.List.Folds.{list_any_at}
