@@ -48,3 +48,17 @@ pub fn number(i: Corner) -> usize
         Corner::C => 2,
     }
 }
+
+/// Which corner of a triangle a point is, counted from 0.
+pub fn corner_number(p: &Point, t: &Triangle) -> Option<usize>
+    ensures { MatchOption result (has_corner p.now t.now ≡ false) (λ i. (i < 3) × (corner t.now (which i) ≡ p.now) × (has_corner p.now t.now ≡ true)) }
+{
+    Some(number(which_corner(p, t)?))
+}
+
+/// Which edge of a triangle an edge is, counted from 0.
+pub fn edge_number(e: &Edge, t: &Triangle) -> Option<usize>
+    ensures { MatchOption result (has_edge e.now t.now ≡ false) (λ i. (i < 3) × (edge_from t.now (which i) ≡ e.now) × (has_edge e.now t.now ≡ true)) }
+{
+    Some(number(which_edge(e, t)?))
+}

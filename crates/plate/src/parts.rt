@@ -85,6 +85,22 @@ pub struct Parts<'a, P: Part> {
 }
 
 impl<'a> View<'a> {
+    /// Triangle `i`.
+    pub fn triangle(&self, i: usize) -> Triangle
+        requires { i < self.now.triangles }
+        ensures { result ≡ triangle_at self.now.numbers.now i }
+    {
+        Triangle::part_at(self, i)
+    }
+
+    /// Outline edge `i`.
+    pub fn outline(&self, i: usize) -> OutlineEdge
+        requires { i < self.now.edges }
+        ensures { result ≡ outline_at self.now.numbers.now i }
+    {
+        OutlineEdge::part_at(self, i)
+    }
+
     /// All parts of a kind.
     pub fn parts<P: Part>(&self) -> Parts<'a, P>
         ensures plate { result.plate.numbers.now ≡ self.now.numbers.now }

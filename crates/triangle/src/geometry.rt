@@ -1,6 +1,7 @@
 //! Differences of points, and the area of a triangle.
-ghost use Rattle.std.specs.Prelude.{◌≡◌, ◌^◌, ◌<◌, ◌≤◌, true, false, map, unsigned_abs, MatchOption};
+ghost use Rattle.std.specs.Prelude.{◌≡◌, ◌^◌, ◌<◌, ◌≤◌, true, false, map, ◌-ℤ◌, unsigned_abs, MatchOption};
 ghost use Rattle.rules.specs.Edges.{vector, edges_in, direction as direction_of};
+ghost use Rattle.rules.specs.Limits.{near_point};
 ghost use Rattle.rules.specs.Triangles.{area2, proper};
 
 use crate::measures::Area;
@@ -9,21 +10,31 @@ use rules::limits::Within;
 use rules::{Edge, Point, Triangle, Vector};
 
 /// The way from one point to another.
-pub fn difference(from: &Within<Point>, to: &Within<Point>) -> Within<Vector>
-    ensures { result.value ≡ vector from.now.value to.now.value }
+pub fn difference(from: &Point, to: &Point) -> Vector
+    requires near_from { near_point from.now ≡ true }
+    requires near_to { near_point to.now ≡ true }
+    ensures x { result.x ≡ to.now.x -ℤ from.now.x }
+    ensures y { result.y ≡ to.now.y -ℤ from.now.y }
+    ensures short { (unsigned_abs result.x ≤ 2 ^ 16) × (unsigned_abs result.y ≤ 2 ^ 16) }
 {
-    let (from, to) = (from.value, to.value);
-    Within::known(Vector {
+    Vector {
         x: to.x - from.x,
         y: to.y - from.y,
-    })
+    }
+}
+
+/// The same, of points whose type says that they are within the limits: the way is within those of a direction.
+pub fn way(from: &Within<Point>, to: &Within<Point>) -> Within<Vector>
+    ensures { result.value ≡ vector from.now.value to.now.value }
+{
+    Within::known(difference(&from.value, &to.value))
 }
 
 /// The way along an edge.
 pub fn direction(e: &Within<Edge>) -> Within<Vector>
     ensures { result.value ≡ direction_of e.now.value }
 {
-    difference(&e.start(), &e.end())
+    way(&e.start(), &e.end())
 }
 
 /// The ways along the edges of a triangle.
@@ -41,7 +52,7 @@ fn twice_area(t: &Within<Triangle>) -> i64
     ensures size { unsigned_abs result ≤ 2 ^ 33 }
 {
     let [a, b, c] = t.corners();
-    let (ab, ac) = (difference(&a, &b).value, difference(&a, &c).value);
+    let (ab, ac) = (way(&a, &b).value, way(&a, &c).value);
     product(ab.x, ac.y) - product(ac.x, ab.y)
 }
 

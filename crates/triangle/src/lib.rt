@@ -7,4 +7,4 @@ pub mod kinds;
 mod measures;
 pub mod terms;
 
-pub use geometry::{difference, direction, directions};
+pub use geometry::{difference, direction, directions, way};
