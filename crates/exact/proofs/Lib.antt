@@ -1,3 +1,4 @@
+pub mod Capped
 pub mod Certificates
 pub mod FractionSums
 pub mod Fractions
@@ -8,4 +9,5 @@ pub mod Members
 pub mod Mixes
 pub mod Order
 pub mod Ring
+pub mod Rounding
 pub mod Sums

@@ -1,5 +1,5 @@
 -- Tests and counts over lists, by the members of the list. Assumes nothing.
-use Rattle.std.proofs.Common.{◌≡◌, ℕ, suc, ◌+◌, ◌<◌, ◌≤◌, Bool, true, false, cond, List, [], ◌∷◌, ◌++◌, map, length, sym, refl, ap, ◌∙◌, subst, ⊎_elim, append_assoc, arith}
+use Rattle.std.proofs.Common.{◌≡◌, ℕ, suc, ◌+◌, ◌<◌, ◌≤◌, Bool, true, false, cond, List, [], ◌∷◌, ◌++◌, map, length, ◌⊎◌, inl, inr, sym, refl, ap, ◌∙◌, subst, ⊎_elim, append_assoc, arith}
 use mathlib.Core.List.Memᴰ
 use mathlib.Core.List.{flat_map, Memᴰ}
 use Rattle.std.proofs.lemmas.Bool.{and_parts, and_from, or_cases, or_left, or_right, cases_Bool, true≢false}
@@ -27,6 +27,13 @@ module _ {A : Type 0} where
   pub every_in : (p : A → Bool) (xs : List A) → ((x : A) → Memᴰ x xs → p x ≡ true) → every p xs ≡ true
   every_in p [] h = refl
   every_in p (x ∷ xs) h = and_from (p x) (every p xs) (h x (Memᴰ.head refl)) (every_in p xs (λ y m. h y (Memᴰ.tail m)))
+
+  -- or some element fails
+  pub every_or : (p : A → Bool) (xs : List A) → (every p xs ≡ true) ⊎ ((x : A) × Memᴰ x xs × (p x ≡ false))
+  every_or p [] = inl refl
+  every_or p (x ∷ xs) =
+      ⊎_elim (λ t. ⊎_elim (λ rest. inl (and_from (p x) (every p xs) t rest)) (λ found. inr (found.0, Memᴰ.tail found.1, found.2)) (every_or p xs))
+      (λ f. inr (x, Memᴰ.head refl, f)) (cases_Bool (p x))
 
   -- ---- some pass it
   pub any_out : (p : A → Bool) (xs : List A) → any p xs ≡ true → (x : A) × Memᴰ x xs × (p x ≡ true)

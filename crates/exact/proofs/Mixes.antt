@@ -2,7 +2,7 @@
 use Rattle.std.proofs.Common.{◌≡◌, [], ◌∷◌, ℤ, pos, ◌+ℤ◌, ◌-ℤ◌, ◌*ℤ◌, ◌≤ℤ◌, ◌<ℤ◌, sym, subst, arith}
 use borrow.Author.Differences.{ints}
 use Rattle.std.proofs.lemmas.Int.{by_lt_z}
-use Rattle.exact.proofs.Certificates.{◌≼◌, ◌≺◌, hyp, ◌⊞◌, ◌⊠◌, prove<}
+use Rattle.exact.proofs.Certificates.{◌≼◌, ◌≺◌, hyp, ◌⊞◌, ◌⊠◌, prove≤, prove<}
 use Rattle.exact.proofs.Ring.{var, con, ◌⊕◌, ◌⊗◌, ◌⊝◌, solve}
 
 -- a parts of (p, q) and b parts of (p', q')
@@ -47,7 +47,12 @@ mixed p q p' q' hp hq' left =
     second_is : ((q' -ℤ p') *ℤ q) +ℤ ((p -ℤ q) *ℤ q') ≡ (p *ℤ q') -ℤ (q *ℤ p')
     second_is = solve (p ∷ q ∷ p' ∷ q' ∷ []) (((var 3 ⊝ var 2) ⊗ var 1) ⊕ ((var 0 ⊝ var 1) ⊗ var 3)) ((var 0 ⊗ var 3) ⊝ (var 1 ⊗ var 2)) tt
 
--- ---- what is above 0 in both stays so mixed
+-- ---- what is not below 0, or above 0, in both stays so mixed
+pub mix_least : (a b x y : ℤ) → pos 0 ≤ℤ a → pos 0 ≤ℤ b → pos 0 ≤ℤ x → pos 0 ≤ℤ y → pos 0 ≤ℤ ((a *ℤ x) +ℤ (b *ℤ y))
+mix_least a b x y ha hb hx hy =
+    prove≤ (a ∷ b ∷ x ∷ y ∷ []) ((con (pos 0) ≼ var 0) ∷ (con (pos 0) ≼ var 1) ∷ (con (pos 0) ≼ var 2) ∷ (con (pos 0) ≼ var 3) ∷ [])
+    ((hyp 0 ⊠ hyp 2) ⊞ (hyp 1 ⊠ hyp 3)) (con (pos 0)) ((var 0 ⊗ var 2) ⊕ (var 1 ⊗ var 3)) tt (ha, (hb, (hx, (hy, tt))))
+
 pub mix_above : (a b x y : ℤ) → pos 0 ≤ℤ a → pos 0 ≤ℤ b → pos 0 <ℤ (a +ℤ b) → pos 0 <ℤ x → pos 0 <ℤ y → pos 0 <ℤ ((a *ℤ x) +ℤ (b *ℤ y))
 mix_above a b x y ha hb some hx hy =
     prove< (a ∷ b ∷ x ∷ y ∷ [])

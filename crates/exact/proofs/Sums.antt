@@ -1,5 +1,5 @@
 -- Laws of finite sums of integers: how a sum is split, moved through and compared. Assumes nothing.
-use Rattle.std.proofs.Common.{◌≡◌, ℕ, suc, Bool, cond, List, [], ◌∷◌, ◌++◌, map, ℤ, pos, ◌+ℤ◌, ◌*ℤ◌, neg_ℤ, sum_by, sym, refl, ap, ◌∙◌, arith}
+use Rattle.std.proofs.Common.{◌≡◌, ℕ, suc, Bool, true, false, cond, List, [], ◌∷◌, ◌++◌, map, ℤ, pos, ◌+ℤ◌, ◌*ℤ◌, ◌≤ℤ◌, neg_ℤ, sum_by, sym, refl, ap, ◌∙◌, arith}
 use mathlib.Core.List.{flat_map, Memᴰ}
 use borrow.Author.Differences.{ints}
 use lib.IntN.{+ℤ_assoc, +ℤ_idl, *ℤ-zero, neg_ℤ-+ℤ}
@@ -38,6 +38,26 @@ module _ {A : Type 0} where
 
   pub sum_z_cong : {f g : A → ℤ} (xs : List A) → ((x : A) → f x ≡ g x) → sum_z f xs ≡ sum_z g xs
   sum_z_cong xs h = sum_z_cong_mem xs (λ x m. h x)
+
+  pub sum_z_≤ℤ : {f g : A → ℤ} (xs : List A) → ((x : A) → Memᴰ x xs → f x ≤ℤ g x) → sum_z f xs ≤ℤ sum_z g xs
+  sum_z_≤ℤ [] h = omega (arith, ints)
+  sum_z_≤ℤ (x ∷ xs) h =
+      let here = h x (Memᴰ.head refl) in
+      let rest = sum_z_≤ℤ xs (λ y m. h y (Memᴰ.tail m)) in
+      omega (arith, ints)
+
+  -- a sum of the terms that pass a test
+  pub sum_z_cond_true : (p : A → Bool) (f : A → ℤ) (xs : List A) → ((x : A) → Memᴰ x xs → p x ≡ true) → sum_z (λ x. cond (p x) (f x) (pos 0)) xs ≡ sum_z f xs
+  sum_z_cond_true p f xs h = sum_z_cong_mem xs (λ x m. ap (λ b. cond b (f x) (pos 0)) (h x m))
+
+  pub sum_z_cond_false : (p : A → Bool) (f : A → ℤ) (xs : List A) → ((x : A) → Memᴰ x xs → p x ≡ false) → sum_z (λ x. cond (p x) (f x) (pos 0)) xs ≡ pos 0
+  sum_z_cond_false p f xs h = sum_z_cong_mem xs (λ x m. ap (λ b. cond b (f x) (pos 0)) (h x m)) ∙ sum_z_zero xs
+
+  pub sum_z_split : (p : A → Bool) (f : A → ℤ) (xs : List A) → sum_z f xs ≡ sum_z (λ x. cond (p x) (f x) (pos 0)) xs +ℤ sum_z (λ x. cond (p x) (pos 0) (f x)) xs
+  sum_z_split p f xs = sum_z_cong xs (λ x. split (p x) (f x)) ∙ sum_z_+ℤ (λ x. cond (p x) (f x) (pos 0)) (λ x. cond (p x) (pos 0) (f x)) xs
+    where
+      split : (b : Bool) (n : ℤ) → n ≡ cond b n (pos 0) +ℤ cond b (pos 0) n
+      split b n = grind arith
 
   -- one number for each element that passes a test
   pub sum_z_cond_const : (p : A → Bool) (c : ℤ) (xs : List A) → sum_z (λ x. cond (p x) c (pos 0)) xs ≡ pos (count p xs) *ℤ c

@@ -52,6 +52,9 @@ edge_out ts e m =
     let which = edge_index at.0 e at.2 in
     (at.0, which.0, at.1, which.1)
 
+pub corner_in : (t : Triangle) (i : Corner) → Memᴰ (corner t i) (corners_in t)
+corner_in t i = Memᴰ.map (corner t) (index_in i)
+
 pub corner_out : (t : Triangle) (p : Point) → Memᴰ p (corners_in t) → (i : Corner) × (p ≡ corner t i)
 corner_out t p m = let at = Memᴰ.of_map (corner t) each_corner m in (at.0, sym at.2)
 

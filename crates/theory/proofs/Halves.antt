@@ -37,6 +37,9 @@ pub back_half : (s : Side) (e : Edge) → back (half s e) ≡ half (other s) (ba
 back_half begin e = λ i. record { from = middle_comm e.from e.to i; to = twice e.from }
 back_half end e = λ i. record { from = twice e.to; to = middle_comm e.from e.to i }
 
+pub tip_back : (s : Side) (e : Edge) → tip (other s) (back e) ≡ tip s e
+tip_back s e = grind arith
+
 pub twice_is : (p q : Point) → twice p ≡ twice q → p ≡ q
 twice_is p q e =
     let ex = ap (λ m. m.x) e in

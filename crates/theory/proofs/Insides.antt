@@ -6,7 +6,7 @@ use Rattle.exact.proofs.Certificates.{◌≈◌, sqr, ◌⊞◌, prove≤, prove
 use Rattle.exact.proofs.Ring.{var, con, ◌⊕◌, ◌⊗◌, ◌⊝◌, ⊖◌, solve}
 use Rattle.rules.specs.declared.Point.{Point}
 use Rattle.rules.specs.declared.Edge.{Edge}
-use Rattle.rules.specs.Edges.{back, vector, across, along, inside}
+use Rattle.rules.specs.Edges.{back, vector, direction, across, along, inside}
 use Rattle.rules.specs.Finer.{half1, half2}
 use Rattle.rules.specs.Parts.{middle, twice}
 use Rattle.theory.proofs.Corners.{P, Q, R, numbers, over}
@@ -146,6 +146,13 @@ across_link p q r x at =
         let X = pair 6 7 in
         solve (p.x ∷ p.y ∷ q.x ∷ q.y ∷ r.x ∷ r.y ∷ x.x ∷ x.y ∷ []) (Across (To (Sum Q R) (Sum R P)) X) (⊖ (Across (To P Q) X)) tt
 
--- the middle of an edge is not inside a half of it
+-- an end is not inside
+pub from_outside : (e : Edge) (r : Point) → r ≡ e.from → Inside e r → ⊥
+from_outside e r is at = let past = at.past in let here = ap (along (direction e)) is in omega (arith, ints)
+
+pub to_outside : (e : Edge) (r : Point) → r ≡ e.to → Inside e r → ⊥
+to_outside e r is at = let short = at.short in let here = ap (along (direction e)) is in omega (arith, ints)
+
+-- nor is the middle of an edge inside a half of it
 pub middle_outside : (s : Side) (e : Edge) (r : Point) → r ≡ middle e.from e.to → Inside (half s e) r → ⊥
 middle_outside s e r is at = grind arith

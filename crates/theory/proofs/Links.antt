@@ -2,7 +2,7 @@
 use Rattle.std.proofs.Common.{◌≡◌, ◌<◌, Bool, true, false, ◌&&◌, ◌⊎◌, map, neg_ℤ, sym, ap, ◌∙◌, subst, ⊎_elim, eq-zero-or-pos, arith}
 use Rattle.std.specs.Cmp.{both_ways}
 use borrow.Author.Differences.{ints}
-use Rattle.std.proofs.lemmas.Bool.{and_from, and_parts}
+use Rattle.std.proofs.lemmas.Bool.{and_from, and_parts, true≢false}
 use Rattle.exact.specs.Lists.{count}
 use Rattle.exact.proofs.Members.{count_map, count_cong, count_none, count_some, count_one, only_one}
 use Rattle.rules.specs.declared.Point.{Point}
@@ -54,6 +54,11 @@ same_corner_is i j h = grind arith
 
 same_corner_from : (i j : Corner) → i ≡ j → same_corner i j ≡ true
 same_corner_from i j e = grind arith
+
+pub turns : (i : Corner) → i ≡ next i → ⊥
+turns A e = true≢false (ap (same_corner A) e)
+turns B e = true≢false (ap (same_corner B) e)
+turns C e = true≢false (ap (same_corner C) e)
 
 module _ (m : Plate) (known : Facts m) where
   -- two edges of s whose middles are those of two edges of t: they are the same edges

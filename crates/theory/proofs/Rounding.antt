@@ -5,6 +5,7 @@ use lib.Signed.{lt_z}
 use Rattle.std.proofs.lemmas.Bool.{and_parts, ltb-true}
 use Rattle.exact.specs.Fractions.{ratio, whole, ◌≤F◌}
 use Rattle.exact.specs.Rounding.{up}
+use Rattle.exact.proofs.Rounding.{up_reaches}
 use Rattle.rules.specs.declared.Triangle.{Triangle}
 use Rattle.rules.specs.Bounds.{upper_in, up_drag_in}
 use Rattle.rules.specs.Laws.{RoundedUp}
@@ -13,8 +14,7 @@ use Rattle.rules.specs.Triangles.{area2, proper}
 -- k times n / d, and k times the quotient rounded up
 rounded : (k n d : ℕ) → 0 < d → ratio (k * n) d ≤F whole (pos (k * up n d))
 rounded k n d above =
-    let reaches : n ≤ up n d * d = omega arith in
-    let more : k * n ≤ k * (up n d * d) = mul-le-mul_left k reaches in
+    let more : k * n ≤ k * (up n d * d) = mul-le-mul_left k (up_reaches n d above) in
     omega (arith, ints)
 
 -- the denominators of what is spent and dragged in a proper triangle
