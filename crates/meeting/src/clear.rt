@@ -29,7 +29,10 @@ fn clear(e: &Within<Edge>, t: &Within<Triangle>) -> bool
     t.corners().iter().all(|r| !inside(e, r))
 }
 
+// Taken in where it is called: else each edge's level at its ends is computed before it is needed, and `compatible` copies its triangles.
+
 /// Whether no corner of `t` lies on an edge of `s` but at its end.
+#[inline(always)]
 pub fn clear_of(s: &Within<Triangle>, t: &Within<Triangle>) -> bool
     ensures { result ≡ clear_of s.now.value t.now.value }
 {

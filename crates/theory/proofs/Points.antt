@@ -1,5 +1,5 @@
 -- The points of a plate in their order: each corner is one of them, and values in a row are found at them. Assumes nothing.
-use Rattle.std.proofs.Common.{◌≡◌, ℕ, suc, Bool, ltb, ◌||◌, ◌+◌, true, cond, not, ◌⊎◌, List, [], ◌∷◌, ◌++◌, map, length, pos, fold, sym, refl, ap, ◌∙◌, subst, inl, inr, ⊎_elim, arith}
+use Rattle.std.proofs.Common.{◌≡◌, ℕ, suc, Bool, ltb, ◌||◌, ◌+◌, true, false, cond, not, ◌⊎◌, List, [], ◌∷◌, ◌++◌, map, length, pos, fold, sym, refl, ap, ◌∙◌, subst, inl, inr, ⊎_elim, arith}
 use mathlib.Core.List.Memᴰ
 use mathlib.Core.List.{Memᴰ}
 use Rattle.std.proofs.lemmas.Bool.{cond_both, ltb-true}
@@ -35,6 +35,9 @@ pub found : (ps : List Point) (f : Values) (p : Point) → Memᴰ p ps → value
 found ps f p n =
     let within = ltb-true (place_of p ps) (length ps) (among_in p ps n) in
     get_or-map f ps (place_of p ps) p (pos 0) within ∙ ap f (sym (point_is p _ (passes_at_first (same_point p) ps p within)))
+
+found_later : (q : Point) (ps : List Point) (f : Values) (p : Point) → same_point p q ≡ false → values_at (q ∷ ps) (map f (q ∷ ps)) p ≡ values_at ps (map f ps) p
+found_later q ps f p t = grind arith
 
 -- ---- each corner is one of the points
 pub noted_keeps : (p q : Point) (ps : List Point) → Memᴰ p ps → Memᴰ p (noted ps q)
